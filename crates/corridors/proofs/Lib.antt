@@ -1,0 +1,5 @@
+pub mod Chains
+pub mod Passed
+pub mod Tables
+pub mod Rooms
+pub mod TwoCorridors

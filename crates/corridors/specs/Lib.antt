@@ -1,0 +1,2 @@
+pub mod ByCorridor
+pub mod Trees

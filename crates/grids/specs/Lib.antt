@@ -1,0 +1,2 @@
+pub mod ByGrid
+pub mod GridSets

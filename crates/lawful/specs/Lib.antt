@@ -1,0 +1,4 @@
+pub mod Sums
+pub mod Awards
+pub mod Lawful
+pub mod Worth

@@ -1,0 +1,41 @@
+use borrow.Author.Needs.{needs}
+use native.Mathlib.Omega.{arith}
+use Rattle.std.proofs.shelf.Results.{err-from-errBy}
+use Rattle.std.specs.declared.option.Option.the-variants.{None}
+use Rattle.screen.specs.Meaning.{answerOf}
+use Rattle.screen.proofs.Rooms.{take-above}
+use Rattle.layers.specs.Stack.{byCaps}
+use Rattle.layers.proofs.Rooms.{room-under-caps, answer-under-caps, take-under-caps}
+use Rattle.layers.proofs.caps.CapLayerScreen.take.Needs as need
+
+pub returns-then-quantity-from : need.returns-then-quantity-from
+returns-then-quantity-from g c =
+    let s = c .args .self .now in
+    let A = g .S·Screen .ontop (s .below) in
+    let room = room-under-caps (s .table .left) A (c .args .place) (g .S·Screen·met .«ontop_lawful» (s .below)) (omega arith) in
+    record {
+      answer = take-above (byCaps (s .table .left) A) (c .args .place) (c .args .quantity) (omega arith) (omega arith);
+      taken = search needs; set = search needs; declined = search needs
+    }
+
+pub returns-in-Break-take : need.returns-in-Break-take
+returns-in-Break-take g c =
+    let s = c .args .self .now in
+    let A = g .S·Screen .ontop (s .below) in
+    let p = err-from-errBy (c .from-residual .result) (c .from-residual .ensures .1) in
+    let told = c .in-Break-take .ensures tt in
+    record {
+      answer = answer-under-caps (s .table .left) A (c .args .place) (g .S·Screen·met .«ontop_lawful» (s .below)) (omega arith) (c .args .quantity) (answerOf (c .from-residual .result)) (omega arith) (rw (p .1, p .2) (told .answer));
+      taken = rw (p .1) (search needs); set = search needs; declined = search needs
+    }
+
+pub returns : need.returns
+returns g c =
+    let s = c .args .self .now in
+    let A = g .S·Screen .ontop (s .below) in
+    let told = c .in-Continue-take .ensures tt in
+    record {
+      answer = answer-under-caps (s .table .left) A (c .args .place) (g .S·Screen·met .«ontop_lawful» (s .below)) (omega arith) (c .args .quantity) None (omega arith) (told .answer);
+      taken = λ ok. take-under-caps (s .table .left) A (g .S·Screen .ontop (c .take .last .self)) (c .args .place) (c .args .quantity) (omega arith) (omega arith) (told .taken ok);
+      set = search needs; declined = search needs
+    }

@@ -1,0 +1,10 @@
+pub mod Maxima
+pub mod Classes
+pub mod Refusals
+pub mod Rows
+pub mod Bands
+pub mod Landing
+pub mod Ranks
+pub mod Sharing
+pub mod Entries
+pub mod Worked
