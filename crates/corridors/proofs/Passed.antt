@@ -1,14 +1,14 @@
 -- What a walk to the root has found and left at the corridors that it has passed.
-use mathlib.Core.Bool.{Bool, true, false, cond, _&&_}
+use mathlib.Core.Bool.{true, cond, _&&_}
 use mathlib.Core.List.{List}
 use mathlib.Core.Logic.{inl, inr}
-use mathlib.Core.Path.{_≡_, refl, sym, ap, _∙_}
+use mathlib.Core.Path.{_≡_, ap, _∙_}
 use Prim.Native.Nat.{ℕ, _+_, _-_, _≤_, _<_, min}
 use native.Mathlib.Omega.{arith}
 use lib.Dec.{ltb}
 use lib.ListN.{length, getD, set}
 use Rattle.std.proofs.shelf.Lists.{length-set, getD-set-same, getD-set-other}
-use Rattle.std.proofs.shelf.Tests.{cases-bool, cases-eq, cases-lt, lt-ltb, le-ltb, cond-false, and-right}
+use Rattle.std.proofs.shelf.Tests.{cases-bool, cases-eq, lt-ltb, le-ltb, cond-false, and-right}
 use Rattle.std.proofs.shelf.Ways.{tells}
 use Rattle.corridors.specs.ByCorridor.{corridorCount, below}
 use Rattle.corridors.specs.Trees.{Falling, LeftAbove}
@@ -49,7 +49,7 @@ module _ (parents : List ℕ) (falling : Falling parents) (d : ℕ) (known : d <
         few = omega arith;
         kept =
             λ c h k.
-              elim (cases-eq c at) [ inl e ↦ rw e (omega arith) | inr ne ↦ omega (arith, w .kept c h (omega (arith, walk-skips parents falling d known at c l (w .on-walk) h k))) ];
+            elim (cases-eq c at) [ inl e ↦ rw e (omega arith) | inr ne ↦ omega (arith, w .kept c h (omega (arith, walk-skips parents falling d known at c l (w .on-walk) h k))) ];
         most = λ q k h. omega (arith, w .most q k h, h at (w .on-walk));
       }
 
@@ -75,10 +75,11 @@ module _ (parents : List ℕ) (falling : Falling parents) (d : ℕ) (known : d <
     not-lowered =
         omega (arith, w .same at, cond-false (below parents 32 d at && ltb at at) q 0 (and-right (below parents 32 d at) (ltb at at) (le-ltb at at (omega arith))))
 
-    pub lowered-enough : q ≤ getD left at 0
+    -- So much is left there that it can be lowered.
+    lowered-enough : q ≤ getD left at 0
     lowered-enough = omega (arith, not-lowered, enough at (w .on-walk))
 
-    -- One corridor is lowered, and the others are as they were.
+    -- Lowered there, it holds q less than at the start; elsewhere nothing changes.
     lower-at : getD (set left at (getD left at 0 - q)) at 0 + q ≡ getD before at 0
     lower-at = omega (arith, getD-set-same left at (getD left at 0 - q) 0 (omega (arith, w .long, w .known)), lowered-enough, not-lowered)
 
@@ -103,7 +104,7 @@ module _ (parents : List ℕ) (falling : Falling parents) (d : ℕ) (known : d <
           long = length-set left at (getD left at 0 - q) ∙ w .long;
           same =
               λ c.
-                elim (cases-eq c at) [ inl e ↦ rw (e, w .on-walk, lt-ltb (getD parents at 0) at f) lower-at | inr ne ↦ rw (passed-elsewhere c l ne) (lower-elsewhere c ne) ];
+              elim (cases-eq c at) [ inl e ↦ rw (e, w .on-walk, lt-ltb (getD parents at 0) at f) lower-at | inr ne ↦ rw (passed-elsewhere c l ne) (lower-elsewhere c ne) ];
         }
 
   -- Come to the root and having lowered it too, the walk has lowered every corridor that it had to.

@@ -1,16 +1,16 @@
 -- Rooms and takes in a tree of corridors.
-use mathlib.Core.Bool.{Bool, true, false, cond}
+use mathlib.Core.Bool.{Bool, true, cond}
 use mathlib.Core.List.{List}
 use mathlib.Core.Logic.{inl, inr}
-use mathlib.Core.Path.{_≡_, refl, sym, ap, _∙_, fun-ext}
-use Prim.Native.Nat.{ℕ, zero, suc, _+_, _≤_, _<_, _/_, min}
+use mathlib.Core.Path.{_≡_, refl, sym, _∙_, fun-ext}
+use Prim.Native.Nat.{ℕ, zero, suc, _+_, _≤_, _<_, _/_}
 use native.Mathlib.Omega.{arith}
 use lib.Dec.{leb}
 use lib.ListN.{getD}
-use Rattle.std.proofs.shelf.Tests.{cases-bool, cases-lt, both-ways, lt-ltb, le-leb, lt-leb, cond-true}
+use Rattle.std.proofs.shelf.Tests.{cases-bool, cases-lt, lt-ltb, le-leb, lt-leb, cond-true}
 use Rattle.std.proofs.shelf.Ways.{tells}
 use Rattle.lawful.specs.Sums.{allBelow}
-use Rattle.lawful.specs.Awards.{Award, AwardSet, zeroAward, raise, within}
+use Rattle.lawful.specs.Awards.{Award, zeroAward, raise, within}
 use Rattle.lawful.specs.Lawful.{Lawful}
 use Rattle.lawful.proofs.Awards.{within-zero, within-raise}
 use Rattle.lawful.proofs.Rooms.{within-room}

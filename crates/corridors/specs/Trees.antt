@@ -1,9 +1,9 @@
 -- Trees of corridors, what is left above a corridor, and a small worked tree.
 use mathlib.Core.Bool.{true, false}
-use mathlib.Core.List.{List, [], _∷_}
+use mathlib.Core.List.{List, _∷_}
 use mathlib.Core.Path.{_≡_}
 use Prim.Native.Nat.{ℕ, _<_, _≤_}
-use lib.ListN.{getD, set, replicate}
+use lib.ListN.{getD, replicate}
 use Rattle.lawful.specs.Awards.{AwardSet, zeroAward, raise}
 use Rattle.corridors.specs.ByCorridor.{corridorCount, below, byCorridor}
 

@@ -1,10 +1,9 @@
 // The screen with a tree of corridors: all units below a corridor, at any depth, together keep its limit.
-ghost use mathlib.Core.Bool.{cond};
-ghost use mathlib.Core.List.{List, [], _∷_};
+ghost use mathlib.Core.List.{[], _∷_};
 ghost use mathlib.Core.Path.{_≡_};
-ghost use Prim.Native.Nat.{ℕ, _<_, _≤_};
+ghost use Prim.Native.Nat.{ℕ, _/_, _<_, _≤_};
 ghost use lib.ListN.{getD, replicate};
-ghost use Rattle.market.specs.Maxima.{maxLimit};
+ghost use Rattle.market.specs.Maxima.{bandsOfUnit, placeCount, maxLimit};
 ghost use Rattle.corridors.specs.ByCorridor.{corridorCount, byCorridor};
 ghost use Rattle.corridors.specs.Trees.{Falling, Worked};
 use market::refusals::ScreenRefusal;
@@ -28,7 +27,7 @@ pub struct CorridorScreen {
 }
 
 impl CorridorScreen {
-    // The screen at first: every limit is 6,000,000, and all units hang on the root.
+    // At first every limit is 6,000,000, every parent is the root and every unit hangs on it.
     pub fn new() -> CorridorScreen
         ensures set { λ r. ⌜ (r .limits ∷ r .hangs ∷ r .parents ∷ []) ≡ (replicate 32 6000000 ∷ replicate 64 0 ∷ replicate 32 0 ∷ []) ⌝ }
         ensures opened { λ r. ⌜ byCorridor (r .left) (r .hangs) (r .parents) ≡ byCorridor (r .limits) (r .hangs) (r .parents) ⌝ }
@@ -40,6 +39,14 @@ impl CorridorScreen {
             parents: [0; 32],
             left: [6_000_000; 32],
         }
+    }
+
+    // The corridor on which the unit of the place hangs.
+    fn corridor_of(&self, place: u32) -> usize
+        requires { ⌜ place < placeCount ⌝ }
+        ensures { λ r. ⌜ r ≡ getD (now (self .entry) .hangs) (place / bandsOfUnit) 0 ⌝ }
+    {
+        self.hangs[(place / 4) as usize] as usize
     }
 }
 
@@ -59,7 +66,7 @@ pub impl Screen for CorridorScreen as CorridorScreenScreen {
         if place > 255 {
             return 0;
         }
-        let corridor = self.hangs[(place / 4) as usize];
+        let corridor = self.corridor_of(place);
         walks::least_left(&self.left, &self.parents, corridor)
     }
 
@@ -70,7 +77,7 @@ pub impl Screen for CorridorScreen as CorridorScreenScreen {
         if quantity > self.room(place) {
             return Err(ScreenRefusal::AboveRoom { place });
         }
-        let corridor = self.hangs[(place / 4) as usize];
+        let corridor = self.corridor_of(place);
         walks::lower_left(&mut self.left, &self.parents, corridor, quantity);
         Ok(())
     }
@@ -114,11 +121,12 @@ pub impl NodeParents for CorridorScreen as CorridorScreenNodeParents {
         if parent > 31 {
             return Err(ScreenRefusal::OutOfRange { name: parent });
         }
-        if parent >= node && (node > 0 || parent > 0) {
+        // 0 may be the parent of every corridor, its own too.
+        if parent > 0 && parent >= node {
             return Err(ScreenRefusal::ParentNotLower { corridor: node });
         }
         self.parents[node as usize] = parent as u8;
-        self.reset();
+        self.reset(); // what was taken counted on the tree as it was
         Ok(())
     }
 }

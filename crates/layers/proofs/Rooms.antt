@@ -1,22 +1,22 @@
 -- Rooms and takes where a layer cuts the open set of the screen below.
-use mathlib.Core.Bool.{Bool, true, false, cond, _&&_}
+use mathlib.Core.Bool.{Bool, _&&_}
 use mathlib.Core.List.{List, [], _∷_}
 use mathlib.Core.Logic.{inl, inr}
 use mathlib.Core.Path.{_≡_, refl, sym, ap, _∙_, fun-ext}
-use Prim.Native.Nat.{ℕ, _+_, _-_, _≤_, _<_, min}
+use Prim.Native.Nat.{ℕ, _-_, _≤_, _<_, min}
 use native.Mathlib.Omega.{arith}
-use lib.Dec.{leb, ltb, eqb}
+use lib.Dec.{leb}
 use lib.ListN.{length, getD, set}
 use lib.Seq.{getD-set-same, getD-set-other}
 use Rattle.std.proofs.shelf.Tests.{lt-ltb, le-leb, lt-leb, cases-lt, cases-eq}
 use Rattle.std.proofs.shelf.Ways.{tells}
+use Rattle.std.specs.declared.option.Option.{Option}
 use Rattle.lawful.specs.Sums.{sumTo, allBelow, greatest}
 use Rattle.lawful.specs.Awards.{Award, AwardSet, zeroAward, raise}
 use Rattle.lawful.specs.Lawful.{Lawful}
-use Rattle.lawful.proofs.Sums.{sum-zeros, all-below-at, all-below-from, all-below-false, greatest-bounded}
+use Rattle.lawful.proofs.Sums.{sum-zeros, all-below-from, all-below-false, greatest-bounded}
 use Rattle.lawful.proofs.Awards.{raise-at, raise-elsewhere, sum-raise}
 use Rattle.lawful.proofs.Rooms.{within-room, beyond-room}
-use Rattle.std.specs.declared.option.Option.{Option}
 use Rattle.market.specs.declared.refusals.Refusal.{Refusal}
 use Rattle.market.specs.Refusals.{refusalOf}
 use Rattle.market.specs.Rows.{row, topmost}
@@ -51,19 +51,25 @@ module _ (A K : AwardSet) (p own : ℕ) (laws : Lawful 256 A) (inside : p < 256)
   answer-of-cut q a le e =
       e ∙ ap (λ b. topmost (row (leb 256 p) (refusalOf 4 3 p) ∷ row b (refusalOf 15 3 p) ∷ [])) (rw room-of-cut (grind (arith, tells)))
 
+-- the award keeps the cap of each place
+abbrev keepsCaps : List ℕ → AwardSet
+keepsCaps caps x = allBelow 256 (λ k. leb (x k) (getD caps k 0))
+
+-- Where q is no more than the cap of the place p, that quantity at p alone keeps each cap.
+within-each-cap : (caps : List ℕ) (p q k : ℕ) → q ≤ getD caps p 0 → raise zeroAward p q k ≤ getD caps k 0
+within-each-cap caps p q k l =
+    elim (cases-eq k p) [ inl e ↦ rw e (omega (arith, raise-at zeroAward p q)) | inr ne ↦ omega (arith, raise-elsewhere zeroAward p q k ne) ]
+
 -- The caps let pass at the place p alone what is no more than its cap.
-caps-at-one-place : (caps : List ℕ) (p q : ℕ) → p < 256 → allBelow 256 (λ k. leb (raise zeroAward p q k) (getD caps k 0)) ≡ leb q (getD caps p 0)
+caps-at-one-place : (caps : List ℕ) (p q : ℕ) → p < 256 → keepsCaps caps (raise zeroAward p q) ≡ leb q (getD caps p 0)
 caps-at-one-place caps p q h =
     elim (cases-lt (getD caps p 0) q) [
       | inl l ↦ all-below-false 256 keeps p h (lt-leb (raise zeroAward p q p) (getD caps p 0) (omega (arith, raise-at zeroAward p q))) ∙ sym (lt-leb q (getD caps p 0) l)
-      | inr l ↦ all-below-from 256 keeps (λ k _. le-leb (raise zeroAward p q k) (getD caps k 0) (each k l)) ∙ sym (le-leb q (getD caps p 0) l)
+      | inr l ↦ all-below-from 256 keeps (λ k _. le-leb (raise zeroAward p q k) (getD caps k 0) (within-each-cap caps p q k l)) ∙ sym (le-leb q (getD caps p 0) l)
     ]
   where
     keeps : ℕ → Bool
     keeps k = leb (raise zeroAward p q k) (getD caps k 0)
-
-    each : (k : ℕ) → q ≤ getD caps p 0 → raise zeroAward p q k ≤ getD caps k 0
-    each k l = elim (cases-eq k p) [ inl e ↦ rw e (omega (arith, raise-at zeroAward p q)) | inr ne ↦ omega (arith, raise-elsewhere zeroAward p q k ne) ]
 
 -- A cap lowered by q lets pass what the cap lets pass with q added at its place.
 lowered-cap : (caps : List ℕ) (p q : ℕ) (x : Award) → p < length caps → q ≤ getD caps p 0 → (k : ℕ) → leb (x k) (getD (set caps p (getD caps p 0 - q)) k 0) ≡ leb (raise x p q k) (getD caps k 0)
@@ -76,10 +82,10 @@ lowered-cap caps p q x h le k =
 -- A lawful set under a cap for each place.
 module _ (caps : List ℕ) (A : AwardSet) (p : ℕ) (laws : Lawful 256 A) (inside : p < 256) where
   pub room-under-caps : roomAt (byCaps caps A) p ≡ min (getD caps p 0) (roomAt A p)
-  room-under-caps = room-of-cut A (λ x. allBelow 256 (λ k. leb (x k) (getD caps k 0))) p (getD caps p 0) laws inside (λ q. caps-at-one-place caps p q inside)
+  room-under-caps = room-of-cut A (keepsCaps caps) p (getD caps p 0) laws inside (λ q. caps-at-one-place caps p q inside)
 
   pub answer-under-caps : (q : ℕ) (a : Option Refusal) → q ≤ getD caps p 0 → a ≡ topmost (takeRows A p q) → a ≡ topmost (takeRows (byCaps caps A) p q)
-  answer-under-caps = answer-of-cut A (λ x. allBelow 256 (λ k. leb (x k) (getD caps k 0))) p (getD caps p 0) laws inside (λ q. caps-at-one-place caps p q inside)
+  answer-under-caps = answer-of-cut A (keepsCaps caps) p (getD caps p 0) laws inside (λ q. caps-at-one-place caps p q inside)
 
 -- Taken below, and its cap lowered, the quantity is taken from the set under the caps.
 pub take-under-caps : (caps : List ℕ) (A B : AwardSet) (p q : ℕ) → p < length caps → q ≤ getD caps p 0 → B ≡ afterTake A p q → byCaps (set caps p (getD caps p 0 - q)) B ≡ afterTake (byCaps caps A) p q

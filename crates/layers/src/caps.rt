@@ -1,6 +1,6 @@
 // The cap layer: a cap for each place, over any screen.
 ghost use mathlib.Core.Bool.{true, false};
-ghost use mathlib.Core.List.{List, _∷_};
+ghost use mathlib.Core.List.{_∷_};
 ghost use mathlib.Core.Path.{_≡_};
 ghost use Prim.Native.Nat.{suc};
 ghost use lib.ListN.{replicate};

@@ -9,15 +9,14 @@ use borrow.Author.Tests.{lt-ltb}
 use lib.Dec.{ltb, lit<}
 use Rattle.std.specs.shelf.Lists.{sum}
 use Rattle.std.proofs.shelf.Sums.{sumBy-cons}
-use Rattle.market.specs.Bands.{Scheme, Rising, headroomOf, topOf, edgeOf, capacityOf, capacitiesFrom, capacities, Adds-up, Adds-up-from-zero}
-use Rattle.market.specs.declared.figures.UnitFigures.{UnitFigures}
+use Rattle.market.specs.Bands.{Scheme, Rising, Figures, headroomOf, topOf, edgeOf, capacityOf, capacitiesFrom, capacities, Adds-up, Adds-up-from-zero}
 use Rattle.market.proofs.Quotients.{div-mono}
 
 -- The stretch ends at the nameplate or below.
-pub top-le-nameplate : (f : UnitFigures) → topOf f ≤ f .nameplate
-top-le-nameplate f = omega (arith, f .fits)
+pub top-le-nameplate : (f : Figures) → f .plan ≤ f .nameplate → topOf f ≤ f .nameplate
+top-le-nameplate f h = omega arith
 
-module _ (s : Scheme) (f : UnitFigures) (law : Rising s) where
+module _ (s : Scheme) (f : Figures) (law : Rising s) (planned : f .plan ≤ f .nameplate) where
   -- An edge lies no lower than the edge before.
   pub edge-rises : (k : ℕ) → k < s .bands → edgeOf s (f .nameplate) k ≤ edgeOf s (f .nameplate) (suc k)
   edge-rises k h = div-mono _ _ 100 (lit< tt) (mul-le-mul-left (f .nameplate) (le-of-lt (law .rises k h)))
@@ -36,7 +35,7 @@ module _ (s : Scheme) (f : UnitFigures) (law : Rising s) where
   sum-from : (k m : ℕ) → k + m ≡ s .bands → sum (capacitiesFrom s f k m) ≡ topOf f - max (f .plan) (edgeOf s (f .nameplate) k)
   sum-from k zero e =
       let last : edgeOf s (f .nameplate) k ≡ f .nameplate = ap (edgeOf s (f .nameplate)) (omega (arith, e)) ∙ last-edge in
-      let t = top-le-nameplate f in
+      let t = top-le-nameplate f planned in
       omega (arith, last)
   sum-from k (suc m) e =
       sumBy-cons (λ x. x) (capacityOf s f k) (capacitiesFrom s f (suc k) m)

@@ -12,7 +12,8 @@ use Rattle.std.proofs.shelf.Tests.{lt-ltb, le-ltb, le-leb, lt-leb, eq-eqb, ne-e
 use Rattle.std.specs.declared.option.Option.{Option}
 use Rattle.std.specs.declared.option.Option.the-variants.{None, Some}
 use Rattle.market.specs.Classes.{classNumber, classAt, classIn, allClasses}
-use Rattle.market.specs.Entries.{anyAbove, keepsBands, fiveFigures, fiveOf, handedOver}
+use Rattle.market.specs.Bands.{Figures, figuresOf}
+use Rattle.market.specs.Entries.{anyAbove, keepsBands, figuresIn, handedOver}
 use Rattle.market.specs.declared.classes.Class.{Class}
 use Rattle.market.specs.declared.entries.RawOffer.{RawOffer}
 use Rattle.market.specs.declared.entries.UnitOffer.{UnitOffer}
@@ -94,10 +95,10 @@ rawOf u g c n o w k p os = record { unit = u; grid = g; class = c; nameplate = n
 -- An offer made of what was handed over, figure by figure, was handed over so.
 pub handed-over :
     (r : RawOffer) (o : UnitOffer) → o .unit .number ≡ r .unit → o .grid .number ≡ r .grid → classNumber (o .class) ≡ r .class
-    → fiveOf (o .figures) ≡ fiveFigures r → map (λ x. x .yuan) (o .offers) ≡ r .offers → handedOver o ≡ r
+    → figuresOf (o .figures) ≡ figuresIn r → map (λ x. x .yuan) (o .offers) ≡ r .offers → handedOver o ≡ r
 handed-over r o u g c f os =
-    let at : (k : ℕ) → getD (fiveOf (o .figures)) k 0 ≡ getD (fiveFigures r) k 0 = λ k. ap (λ xs. getD xs k 0) f in
-    let n0 = at 0 in let n1 = at 1 in let n2 = at 2 in let n3 = at 3 in let n4 = at 4 in
+    let n0 = ap (λ x. x .nameplate) f in let n1 = ap (λ x. x .ownDerate) f in let n2 = ap (λ x. x .networkDerate) f in
+    let n3 = ap (λ x. x .keptReserve) f in let n4 = ap (λ x. x .plan) f in
     let whole : rawOf (o .unit .number) (o .grid .number) (classNumber (o .class)) (o .figures .nameplate) (o .figures .«own_derate») (o .figures .«network_derate») (o .figures .«kept_reserve») (o .figures .plan) (map (λ x. x .yuan) (o .offers))
     ≡ rawOf (r .unit) (r .grid) (r .class) (r .nameplate) (r .«own_derate») (r .«network_derate») (r .«kept_reserve») (r .plan) (r .offers) = cc in
     whole

@@ -11,7 +11,7 @@ use Rattle.market.specs.declared.classes.Class.{Class}
 use Rattle.market.specs.declared.classes.Class.the-variants.{Hydro, Storage, Gas, LargeUltraLowCoal, SmallUltraLowCoal, LargeCoal, SmallCoal}
 use Rattle.market.specs.declared.figures.UnitFigures.{UnitFigures}
 
--- A band scheme: how many bands, and their edges in per cent of the nameplate, the first edge at 0.
+-- A band scheme: how many bands, and their edges in per cent of the nameplate. Edge k is the lower edge of band k.
 pub record Scheme : Type 0 where
   pub bands : ℕ
   pub percent : ℕ → ℕ
@@ -39,12 +39,23 @@ schemeOf SmallUltraLowCoal = threeBands
 schemeOf LargeCoal = threeBands
 schemeOf SmallCoal = threeBands
 
+-- a unit's five figures, in tenths
+pub record Figures : Type 0 where
+  pub nameplate : ℕ
+  pub ownDerate : ℕ
+  pub networkDerate : ℕ
+  pub keptReserve : ℕ
+  pub plan : ℕ
+
+abbrev pub figuresOf : UnitFigures → Figures
+figuresOf f = record { nameplate = f .nameplate; ownDerate = f .«own_derate»; networkDerate = f .«network_derate»; keptReserve = f .«kept_reserve»; plan = f .plan }
+
 -- the stretch of output directly above plan: what is left of the nameplate
-abbrev pub headroomOf : UnitFigures → ℕ
-headroomOf f = f .nameplate - f .«own_derate» - f .«network_derate» - f .«kept_reserve» - f .plan
+abbrev pub headroomOf : Figures → ℕ
+headroomOf f = f .nameplate - f .ownDerate - f .networkDerate - f .keptReserve - f .plan
 
 -- where the stretch ends
-abbrev pub topOf : UnitFigures → ℕ
+abbrev pub topOf : Figures → ℕ
 topOf f = f .plan + headroomOf f
 
 -- the output at which the edge k lies, rounded down
@@ -52,22 +63,22 @@ abbrev pub edgeOf : Scheme → ℕ → ℕ → ℕ
 edgeOf s nameplate k = nameplate * s .percent k / 100
 
 -- the length of the part of the stretch between the edges of the band k
-abbrev pub capacityOf : Scheme → UnitFigures → ℕ → ℕ
+abbrev pub capacityOf : Scheme → Figures → ℕ → ℕ
 capacityOf s f k = cond (ltb k (s .bands)) (min (topOf f) (edgeOf s (f .nameplate) (suc k)) - max (f .plan) (edgeOf s (f .nameplate) k)) 0
 
 -- the capacities of m bands from the band k on
-abbrev pub capacitiesFrom : Scheme → UnitFigures → ℕ → ℕ → List ℕ
+abbrev pub capacitiesFrom : Scheme → Figures → ℕ → ℕ → List ℕ
 capacitiesFrom s f k zero = []
 capacitiesFrom s f k (suc m) = capacityOf s f k ∷ capacitiesFrom s f (suc k) m
 
 -- the capacities of all bands
-abbrev pub capacities : Scheme → UnitFigures → List ℕ
+abbrev pub capacities : Scheme → Figures → List ℕ
 capacities s f = capacitiesFrom s f 0 (s .bands)
 
 -- The capacities add up to the part of the stretch above the first edge.
-abbrev pub Adds-up : Scheme → UnitFigures → Type 0
+abbrev pub Adds-up : Scheme → Figures → Type 0
 Adds-up s f = sum (capacities s f) ≡ topOf f - max (f .plan) (edgeOf s (f .nameplate) 0)
 
 -- In a scheme from 0 they add up to the headroom.
-abbrev pub Adds-up-from-zero : Scheme → UnitFigures → Type 0
+abbrev pub Adds-up-from-zero : Scheme → Figures → Type 0
 Adds-up-from-zero s f = s .percent 0 ≡ 0 → sum (capacities s f) ≡ headroomOf f

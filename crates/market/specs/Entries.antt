@@ -15,14 +15,13 @@ use Rattle.market.specs.Classes.{classNumber, classAt}
 use Rattle.market.specs.declared.classes.Class.{Class}
 use Rattle.market.specs.Refusals.{refusalOf, marketRefusal}
 use Rattle.market.specs.Rows.{Row, row}
-use Rattle.market.specs.Bands.{Scheme, schemeOf, capacityOf}
+use Rattle.market.specs.Bands.{Figures, schemeOf, figuresOf, capacityOf}
 use Rattle.market.specs.Landing.{landed}
 use Rattle.market.specs.declared.refusals.Refusal.{Refusal}
 use Rattle.market.specs.declared.refusals.MarketRefusal.{MarketRefusal}
 use Rattle.market.specs.declared.entries.RawOffer.{RawOffer}
 use Rattle.market.specs.declared.entries.UnitOffer.{UnitOffer}
 use Rattle.market.specs.declared.figures.Charges.{Charges}
-use Rattle.market.specs.declared.figures.UnitFigures.{UnitFigures}
 use Rattle.market.specs.declared.tiers.Tier.{Tier}
 
 -- some figure is above the maximum
@@ -30,16 +29,16 @@ abbrev pub anyAbove : ℕ → List ℕ → Bool
 anyAbove m [] = false
 anyAbove m (x ∷ xs) = ltb m x || anyAbove m xs
 
--- the five figures of a unit
-abbrev pub fiveFigures : RawOffer → List ℕ
-fiveFigures r = r .nameplate ∷ r .«own_derate» ∷ r .«network_derate» ∷ r .«kept_reserve» ∷ r .plan ∷ []
+-- the five figures of an offer as it is handed over
+abbrev pub figuresIn : RawOffer → Figures
+figuresIn r = record { nameplate = r .nameplate; ownDerate = r .«own_derate»; networkDerate = r .«network_derate»; keptReserve = r .«kept_reserve»; plan = r .plan }
 
-abbrev pub fiveOf : UnitFigures → List ℕ
-fiveOf f = f .nameplate ∷ f .«own_derate» ∷ f .«network_derate» ∷ f .«kept_reserve» ∷ f .plan ∷ []
+abbrev pub listed : Figures → List ℕ
+listed f = f .nameplate ∷ f .ownDerate ∷ f .networkDerate ∷ f .keptReserve ∷ f .plan ∷ []
 
 -- derates, reserve and plan exceed the nameplate
-abbrev pub exceedsNameplate : RawOffer → Bool
-exceedsNameplate r = ltb (r .nameplate) (r .«own_derate» + r .«network_derate» + r .«kept_reserve» + r .plan)
+abbrev pub exceedsNameplate : Figures → Bool
+exceedsNameplate f = ltb (f .nameplate) (f .ownDerate + f .networkDerate + f .keptReserve + f .plan)
 
 -- offers that rise over m bands, each at least the one before, and are 0 behind them
 abbrev pub keepsBands : ℕ → ℕ → List ℕ → Bool
@@ -58,8 +57,8 @@ offerRows r =
     row (leb unitCount (r .unit)) (refusalOf 4 2 (r .unit))
     ∷ row (leb gridCount (r .grid)) (refusalOf 4 2 (r .grid))
     ∷ row (not (isSome (classAt (r .class)))) (refusalOf 4 2 (r .class))
-    ∷ row (anyAbove maxFigure (fiveFigures r) || anyAbove maxOffer (r .offers)) (refusalOf 5 2 (r .unit))
-    ∷ row (exceedsNameplate r) (refusalOf 6 2 (r .unit))
+    ∷ row (anyAbove maxFigure (listed (figuresIn r)) || anyAbove maxOffer (r .offers)) (refusalOf 5 2 (r .unit))
+    ∷ row (exceedsNameplate (figuresIn r)) (refusalOf 6 2 (r .unit))
     ∷ row (not (keepsClass (classAt (r .class)) (r .offers))) (refusalOf 7 2 (r .unit))
     ∷ []
 
@@ -98,7 +97,7 @@ marketAnswer (Err e) = Some (marketRefusal e)
 
 -- the capacity of an accepted offer in a band
 abbrev pub capacityIn : UnitOffer → ℕ → ℕ
-capacityIn o band = capacityOf (schemeOf (o .class)) (o .figures) band
+capacityIn o band = capacityOf (schemeOf (o .class)) (figuresOf (o .figures)) band
 
 -- The tier of an accepted offer in a band.
 pub record Tier-of (o : UnitOffer) (charges : Charges) (band : ℕ) (t : Tier) : Type 0 where

@@ -1,23 +1,12 @@
 -- Cases worked by hand.
 use mathlib.Core.List.{List, [], _∷_}
 use mathlib.Core.Path.{_≡_}
-use Prim.Native.Nat.{ℕ, _+_, _≤_}
-use lib.Dec.{lit≤}
-use Rattle.market.specs.Bands.{threeBands, headroomOf, capacities}
+use Rattle.market.specs.Bands.{Figures, threeBands, headroomOf, capacities}
 use Rattle.market.specs.Sharing.{sharesOf}
-use Rattle.market.specs.declared.figures.UnitFigures.{UnitFigures}
 
 -- nameplate 6,000, derates 100 and 0, reserve 200, plan 4,000
-abbrev pub workedFigures : UnitFigures
-workedFigures = record {
-  nameplate = 6000;
-  «own_derate» = 100;
-  «network_derate» = 0;
-  «kept_reserve» = 200;
-  plan = 4000;
-  small = lit≤ tt;
-  fits = lit≤ tt;
-}
+abbrev pub workedFigures : Figures
+workedFigures = record { nameplate = 6000; ownDerate = 100; networkDerate = 0; keptReserve = 200; plan = 4000 }
 
 -- Its headroom is 1,700 and its capacities are 0, 1,100 and 600.
 abbrev pub Worked-capacities : Type 0

@@ -1,7 +1,7 @@
 // Headroom and output bands: how much a unit can offer in each band.
 ghost use mathlib.Core.Path.{_≡_};
 ghost use Prim.Native.Nat.{ℕ, _<_};
-ghost use Rattle.market.specs.Bands.{Scheme, Rising, threeBands, oneBand, schemeOf, headroomOf, edgeOf, capacityOf, Adds-up, Adds-up-from-zero};
+ghost use Rattle.market.specs.Bands.{Scheme, Rising, threeBands, oneBand, schemeOf, figuresOf, headroomOf, edgeOf, capacityOf, Adds-up, Adds-up-from-zero};
 ghost use Rattle.market.specs.Worked.{Worked-capacities};
 use super::classes::Class;
 use super::figures::UnitFigures;
@@ -9,7 +9,7 @@ use super::figures::UnitFigures;
 impl UnitFigures {
     // What derates, kept reserve and plan leave of the nameplate.
     pub fn headroom(&self) -> u16
-        ensures { λ r. ⌜ r ≡ headroomOf (now (self .entry)) ⌝ }
+        ensures { λ r. ⌜ r ≡ headroomOf (figuresOf (now (self .entry))) ⌝ }
     {
         self.nameplate - self.own_derate - self.network_derate - self.kept_reserve - self.plan
     }
@@ -83,9 +83,9 @@ pub fn edge<S: BandScheme>(nameplate: u16, edge: usize) -> u32
 
 // The capacity of a band, in tenths: the part of the headroom's stretch between its edges, 0 for a band that there is not.
 pub fn capacity<S: BandScheme>(figures: &UnitFigures, band: usize) -> u16
-    ensures value { λ r. ⌜ r ≡ capacityOf scheme (now (figures .entry)) band ⌝ }
-    ensures sum { λ _. ⌜ Adds-up scheme (now (figures .entry)) ⌝ }
-    ensures sum_from_zero { λ _. ⌜ Adds-up-from-zero scheme (now (figures .entry)) ⌝ }
+    ensures value { λ r. ⌜ r ≡ capacityOf scheme (figuresOf (now (figures .entry))) band ⌝ }
+    ensures sum { λ _. ⌜ Adds-up scheme (figuresOf (now (figures .entry))) ⌝ }
+    ensures sum_from_zero { λ _. ⌜ Adds-up-from-zero scheme (figuresOf (now (figures .entry))) ⌝ }
     ensures worked { λ _. ⌜ Worked-capacities ⌝ }
 {
     if band >= S::band_count() {
@@ -101,7 +101,7 @@ pub fn capacity<S: BandScheme>(figures: &UnitFigures, band: usize) -> u16
 impl Class {
     // The capacity of a unit's band under the scheme of its class.
     pub fn capacity(self, figures: &UnitFigures, band: usize) -> u16
-        ensures { λ r. ⌜ r ≡ capacityOf (schemeOf self) (now (figures .entry)) band ⌝ }
+        ensures { λ r. ⌜ r ≡ capacityOf (schemeOf self) (figuresOf (now (figures .entry))) band ⌝ }
     {
         match self {
             Class::Hydro | Class::Storage => capacity::<OneBand>(figures, band),

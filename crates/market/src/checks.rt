@@ -6,8 +6,8 @@ ghost use Rattle.std.specs.Options.{Cases};
 ghost use Rattle.std.specs.Vec.{made};
 ghost use Rattle.market.specs.Maxima.{maxFigure, maxOffer};
 ghost use Rattle.market.specs.Rows.{topmost};
-ghost use Rattle.market.specs.Bands.{schemeOf};
-ghost use Rattle.market.specs.Entries.{anyAbove, fiveFigures, fiveOf, exceedsNameplate, keepsBands, offerRows, handedOver, bidRows, tariffRows, marketAnswer, capacityIn, Tier-of};
+ghost use Rattle.market.specs.Bands.{schemeOf, figuresOf};
+ghost use Rattle.market.specs.Entries.{anyAbove, figuresIn, listed, exceedsNameplate, keepsBands, offerRows, handedOver, bidRows, tariffRows, marketAnswer, capacityIn, Tier-of};
 use super::classes::Class;
 use super::entries::RawOffer;
 use super::entries::UnitOffer;
@@ -68,7 +68,7 @@ impl Offer {
 impl RawOffer {
     // Whether a figure or an offer is above its maximum.
     fn above_maximum(&self) -> bool
-        ensures { λ r. ⌜ r ≡ (anyAbove maxFigure (fiveFigures (now (self .entry))) || anyAbove maxOffer (now (self .entry) .offers)) ⌝ }
+        ensures { λ r. ⌜ r ≡ (anyAbove maxFigure (listed (figuresIn (now (self .entry)))) || anyAbove maxOffer (now (self .entry) .offers)) ⌝ }
     {
         let figures = [
             self.nameplate,
@@ -82,8 +82,8 @@ impl RawOffer {
 
     // Whether derates, reserve and plan exceed the nameplate, where no figure is above its maximum.
     fn exceeds_nameplate(&self) -> bool
-        requires { ⌜ anyAbove maxFigure (fiveFigures (now self)) ≡ false ⌝ }
-        ensures { λ r. ⌜ r ≡ exceedsNameplate (now (self .entry)) ⌝ }
+        requires { ⌜ anyAbove maxFigure (listed (figuresIn (now self))) ≡ false ⌝ }
+        ensures { λ r. ⌜ r ≡ exceedsNameplate (figuresIn (now (self .entry))) ⌝ }
     {
         self.nameplate < self.own_derate + self.network_derate + self.kept_reserve + self.plan
     }
@@ -92,9 +92,9 @@ impl RawOffer {
 impl UnitFigures {
     // The five figures of an offer that are known to be in order.
     fn of(raw: &RawOffer) -> UnitFigures
-        requires small { ⌜ anyAbove maxFigure (fiveFigures (now raw)) ≡ false ⌝ }
-        requires fits { ⌜ exceedsNameplate (now raw) ≡ false ⌝ }
-        ensures { λ r. ⌜ fiveOf r ≡ fiveFigures (now (raw .entry)) ⌝ }
+        requires small { ⌜ anyAbove maxFigure (listed (figuresIn (now raw))) ≡ false ⌝ }
+        requires fits { ⌜ exceedsNameplate (figuresIn (now raw)) ≡ false ⌝ }
+        ensures { λ r. ⌜ figuresOf r ≡ figuresIn (now (raw .entry)) ⌝ }
     {
         UnitFigures {
             nameplate: raw.nameplate as u16,

@@ -15,7 +15,9 @@ returns-then-quantity-self g c =
     let room = room-under-ceiling (s .table .left) A (c .args .place) (g .S·Screen·met .«ontop_lawful» (s .below)) (omega arith) in
     record {
       answer = take-above (byCeiling (s .table .left) A) (c .args .place) (c .args .quantity) (omega arith) (omega arith);
-      taken = search needs; set = search needs; declined = search needs
+      taken = search needs;
+      set = search needs;
+      declined = search needs;
     }
 
 pub returns-in-Break-take : need.returns-in-Break-take
@@ -26,7 +28,9 @@ returns-in-Break-take g c =
     let told = c .in-Break-take .ensures tt in
     record {
       answer = answer-under-ceiling (s .table .left) A (c .args .place) (g .S·Screen·met .«ontop_lawful» (s .below)) (omega arith) (c .args .quantity) (answerOf (c .from-residual .result)) (omega arith) (rw (p .1, p .2) (told .answer));
-      taken = rw (p .1) (search needs); set = search needs; declined = search needs
+      taken = rw (p .1) (search needs);
+      set = search needs;
+      declined = search needs;
     }
 
 pub returns : need.returns
@@ -37,5 +41,6 @@ returns g c =
     record {
       answer = answer-under-ceiling (s .table .left) A (c .args .place) (g .S·Screen·met .«ontop_lawful» (s .below)) (omega arith) (c .args .quantity) None (omega arith) (told .answer);
       taken = λ ok. take-under-ceiling (s .table .left) A (g .S·Screen .ontop (c .take .last .self)) (c .args .place) (c .args .quantity) (omega arith) (omega arith) (told .taken ok);
-      set = search needs; declined = search needs
+      set = search needs;
+      declined = search needs;
     }

@@ -1,0 +1,10 @@
+pub mod GroupGrowth
+pub mod GroupFull
+pub mod Sweeps
+pub mod Bids
+pub mod Claims
+pub mod Dominance
+pub mod Cleared
+pub mod Worthy
+pub mod Segments
+pub mod Sound

@@ -1,0 +1,5 @@
+pub mod Entries
+pub mod View
+pub mod Groups
+pub mod Outcome
+pub mod Laws
