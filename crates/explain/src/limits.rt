@@ -23,7 +23,12 @@ fn two_corridors() -> Result<CorridorScreen, ScreenRefusal> {
 }
 
 // Takes a quantity at a place and says what came of it, with the rooms of units 0 and 1 then.
-fn show_take<S: Screen>(rt: &LibcRuntime, screen: &mut S, place: u32, quantity: u32) -> Result<(), AnyError> {
+fn show_take<S: Screen>(
+    rt: &LibcRuntime,
+    screen: &mut S,
+    place: u32,
+    quantity: u32,
+) -> Result<(), AnyError> {
     match screen.take(place, quantity) {
         Ok(()) => print!(rt, "  take {quantity} at place {place}: taken;")?,
         Err(refusal) => {
@@ -51,7 +56,10 @@ fn show_takes<S: Screen>(rt: &LibcRuntime, screen: &mut S) -> Result<(), AnyErro
 // Shows the corridors alone, and then under a cap of 10 at place 0.
 pub fn show(rt: &LibcRuntime) -> Result<(), AnyError> {
     println!(rt, "")?;
-    println!(rt, "A screen: corridor 0 limited to 100, corridor 1 below it to 70; unit 0 on 1, unit 1 on 0:")?;
+    println!(
+        rt,
+        "A screen: corridor 0 limited to 100, corridor 1 below it to 70; unit 0 on 1, unit 1 on 0:"
+    )?;
     let Ok(mut corridors) = two_corridors() else {
         return Err("a limit was declined".into());
     };

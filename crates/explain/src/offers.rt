@@ -57,13 +57,19 @@ fn show_unit(rt: &LibcRuntime, offer: &UnitOffer) -> Result<(), AnyError> {
     let nameplate = figures.nameplate;
     let plan = figures.plan;
     let headroom = figures.headroom();
-    println!(rt, "unit {unit} on grid {grid}, class {class}: nameplate {nameplate}, plan {plan}, headroom {headroom}")?;
+    println!(
+        rt,
+        "unit {unit} on grid {grid}, class {class}: nameplate {nameplate}, plan {plan}, headroom {headroom}"
+    )?;
     for band in 0..offer.class.band_count() {
         let capacity = offer.class.capacity(&offer.figures, band);
         if let Some(tier) = offer.tier(band, charges(grid)) {
             let landed = tier.landed.fen();
             let place = tier.place.number;
-            println!(rt, "  band {band}: capacity {capacity} at place {place}, landed offer {landed}")?;
+            println!(
+                rt,
+                "  band {band}: capacity {capacity} at place {place}, landed offer {landed}"
+            )?;
         } else {
             println!(rt, "  band {band}: capacity {capacity}, no tier")?;
         }
@@ -76,7 +82,10 @@ fn show_refusal(rt: &LibcRuntime, unit: u32, refusal: MarketRefusal) -> Result<(
     let number = answer.number;
     let layer = answer.layer;
     let name = answer.name;
-    println!(rt, "unit {unit} is declined: refusal {number} of layer {layer}, naming {name}")?;
+    println!(
+        rt,
+        "unit {unit} is declined: refusal {number} of layer {layer}, naming {name}"
+    )?;
     Ok(())
 }
 

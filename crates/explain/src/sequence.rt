@@ -24,7 +24,10 @@ fn show_tier(rt: &LibcRuntime, tier: &Tier) -> Result<(), AnyError> {
     let class = tier.class.number();
     let place = tier.place.number;
     let capacity = tier.capacity;
-    println!(rt, "  landed {landed}, class {class}, place {place}: capacity {capacity}")?;
+    println!(
+        rt,
+        "  landed {landed}, class {class}, place {place}: capacity {capacity}"
+    )?;
     Ok(())
 }
 
@@ -51,7 +54,10 @@ pub fn share_group(rt: &LibcRuntime, tiers: &Vec<Tier>) -> Result<(), AnyError> 
         }
     }
     println!(rt, "")?;
-    println!(rt, "A want of 50 over the tiers that tie at 42200 in class 4:")?;
+    println!(
+        rt,
+        "A want of 50 over the tiers that tie at 42200 in class 4:"
+    )?;
     if share_out(50, claims.as_slice(), shares.as_mut_slice()) {
         println!(rt, "  capacities {claims:?} get {shares:?}")?;
     }

@@ -41,7 +41,7 @@ pub impl BandScheme for ThreeBands as ThreeBandsScheme {
     const BANDS: usize = 3;
 
     fn band_count() -> usize {
-        Self::BANDS
+        ThreeBands::BANDS
     }
 
     fn percent(edge: usize) -> u8 {
@@ -63,14 +63,11 @@ pub impl BandScheme for OneBand as OneBandScheme {
     const BANDS: usize = 1;
 
     fn band_count() -> usize {
-        Self::BANDS
+        OneBand::BANDS
     }
 
     fn percent(edge: usize) -> u8 {
-        match edge {
-            0 => 0,
-            _ => 100,
-        }
+        if edge == 0 { 0 } else { 100 }
     }
 }
 

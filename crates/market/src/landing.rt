@@ -47,6 +47,6 @@ impl LandedOffer {
     pub fn within(self, bid: BidPrice) -> bool
         ensures { λ r. ⌜ r ≡ leb (self .fen) (bid .fen) ⌝ }
     {
-        self.fen <= bid.fen
+        bid.fen >= self.fen
     }
 }

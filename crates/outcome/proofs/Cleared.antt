@@ -37,10 +37,10 @@ no-claims e got b zero g served = refl
 no-claims e got b (suc n) g served =
     let rest = no-claims e got b n (suc g) (λ k l. served k (omega arith)) in
     let head : cond (leb b (e .bid g)) (e .need g - got g) 0 ≡ 0 =
-        elim (cases-lt (e .bid g) b) [
-          | inl low ↦ cond-false (leb b (e .bid g)) (e .need g - got g) 0 (lt-leb b (e .bid g) low)
-          | inr high ↦ cond-true (leb b (e .bid g)) (e .need g - got g) 0 (le-leb b (e .bid g) high) ∙ omega (arith, served g (omega arith) high)
-        ] in
+    elim (cases-lt (e .bid g) b) [
+      | inl low ↦ cond-false (leb b (e .bid g)) (e .need g - got g) 0 (lt-leb b (e .bid g) low)
+      | inr high ↦ cond-true (leb b (e .bid g)) (e .need g - got g) 0 (le-leb b (e .bid g) high) ∙ omega (arith, served g (omega arith) high)
+    ] in
     omega (arith, sumBy-cons (λ x. x) (cond (leb b (e .bid g)) (e .need g - got g) 0) (claimsFrom e got b n (suc g)))
 
 -- What holds once the bids below n are worked.
@@ -117,7 +117,7 @@ module _ (A : AwardSet) (e : Entries) (laws : Lawful 256 A) (ranged : Ranged e) 
       let goal = total (o .award) + sum (claims e (o .got) b) in
       let last : o .next + (8 * suc b - o .next) ≡ 8 * suc b = omega (arith, c .behind) in
       subst (λ m. WorkedTo A e goal m (segment A e b o .award)) last
-        (sweep-worked A e laws ranged goal (o .next) (record { award = o .award; price = 0 }) segment-start (8 * suc b - o .next))
+      (sweep-worked A e laws ranged goal (o .next) (record { award = o .award; price = 0 }) segment-start (8 * suc b - o .next))
 
   -- It changes nothing below the levels of the segment.
   segment-below : (p : ℕ) → level e p < o .next → o .award p ≡ segment A e b o .award p
@@ -173,8 +173,11 @@ module _ (A : AwardSet) (e : Entries) (laws : Lawful 256 A) (ranged : Ranged e) 
         | inl low ↦
             elim (c .buyers g h low) [
               | inl got ↦ inl (got ∙ sym (segment-others g h low))
-              | inr full ↦ inr (omega arith, λ l under.
-                  full-below-carried A e laws (o .next) (o .award) (segment A e b o .award) segment-below l (omega (arith, full .0)) (full .1 l under))
+              | inr full ↦ inr (
+                omega arith,
+                λ l under.
+                    full-below-carried A e laws (o .next) (o .award) (segment A e b o .award) segment-below l (omega (arith, full .0)) (full .1 l under),
+              )
             ]
         | inr high ↦
             elim (segment-worked .exhausted) [

@@ -51,7 +51,7 @@ module _ (A : AwardSet) (e : Entries) (laws : Lawful 256 A) where
   pub full-carried : (P : ℕ → Bool) (x y : Award) → ((p : ℕ) → P p ≡ true → x p ≡ y p) → Full 256 (permitted A e) P x → Full 256 (permitted A e) P y
   full-carried P x y same full p h at =
       sym (lawful-ext 256 (permitted A e) (raise (keep P x) p 1) (raise (keep P y) p 1) (caps-keep-laws 256 (e .capacity) A laws)
-        (λ k _. omega (arith, keep-same P x y k (same k))))
+      (λ k _. omega (arith, keep-same P x y k (same k))))
       ∙ full p h at
 
   -- What is full below a level stays so where the award changes only from that level on.
@@ -99,7 +99,7 @@ module _ (A : AwardSet) (e : Entries) (laws : Lawful 256 A) (ranged : Ranged e) 
                     | inr full ↦ inr (full-below-carried A e laws m z after group-below l below full)
                     | inl inside ↦
                         let same = sum-same 256 (keep (upTo (level e) l) z) (keep (upTo (level e) l) after)
-                            (λ k _. keep-same (upTo (level e) l) z after k (λ at. group-below k (omega (arith, leb-true (level e k) l at)))) in
+                        (λ k _. keep-same (upTo (level e) l) z after k (λ at. group-below k (omega (arith, leb-true (level e k) l at)))) in
                         inl (omega (arith, same, group-total, group-within-goal A e goal m z (w .within-goal)))
                   ]
             ]
@@ -120,7 +120,7 @@ module _ (A : AwardSet) (e : Entries) (laws : Lawful 256 A) (ranged : Ranged e) 
             lawful-ext 256 (permitted A e) (raise (keep up after) p 1) (raise after p 1) caps (λ k _. omega (arith, whole k)) ∙ stuck p h same
         | inr ne ↦
             higher-is-out 256 (permitted A e) (raise (keep part z) p 1) (raise (keep up after) p 1) caps
-              (λ k _. omega (arith, lower (level e p) le k)) (full (level e p) (omega arith) p h (le-leb (level e p) (level e p) (omega arith)))
+            (λ k _. omega (arith, lower (level e p) le k)) (full (level e p) (omega arith) p h (le-leb (level e p) (level e p) (omega arith)))
       ]
     where
       whole : (k : ℕ) → keep (upTo (level e) m) (workGroup A e goal m z) k ≡ workGroup A e goal m z k

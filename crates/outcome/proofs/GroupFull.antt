@@ -111,7 +111,7 @@ module _ (A : AwardSet) (laws : Lawful 256 A) where
                       let is-room : r ≡ q = omega arith in
                       let out = raised-out z p l (omega (arith, most p)) in
                       inr (stuck-in-set (raise z p q) p
-                        (higher-is-out 256 A (raise z p (suc r)) (raise (raise z p q) p 1) laws (λ k _. grind arith) out))
+                      (higher-is-out 256 A (raise z p (suc r)) (raise (raise z p q) p 1) laws (λ k _. grind arith) out))
                 ]
           ]
 
@@ -181,10 +181,10 @@ first-keeps A cap (p ∷ ps) (t ∷ ts) z apart empty bounded kept =
     let q = min t (roomOver A z p) in
     let target : t ≤ cap p = bounded 0 in
     let raised : Kept cap (raise z p q) = λ k.
-        elim (cases-eq k p) [
-          | inl e ↦ rw e (omega (arith, raise-at z p q, empty .0))
-          | inr ne ↦ omega (arith, raise-elsewhere z p q k ne, kept k)
-        ] in
+    elim (cases-eq k p) [
+      | inl e ↦ rw e (omega (arith, raise-at z p q, empty .0))
+      | inr ne ↦ omega (arith, raise-elsewhere z p q k ne, kept k)
+    ] in
     first-keeps A cap ps ts (raise z p q) (apart .1) (still-empty z p q ps (apart .0) (empty .1)) (λ k. bounded (suc k)) raised
 
 -- Targets are within the capacities.
@@ -205,8 +205,8 @@ unfolding membersFrom
 members-between e l zero p = tt
 members-between e l (suc n) p =
     let rest =
-        all-weaker (λ k. (suc p ≤ k) × (k < suc p + n)) (λ k. (p ≤ k) × (k < p + suc n)) (λ k h. (omega arith, omega arith))
-          (membersFrom e l n (suc p)) (members-between e l n (suc p)) in
+    all-weaker (λ k. (suc p ≤ k) × (k < suc p + n)) (λ k. (p ≤ k) × (k < p + suc n)) (λ k h. (omega arith, omega arith))
+    (membersFrom e l n (suc p)) (members-between e l n (suc p)) in
     elim (cases-bool (ltb 0 (e .capacity p) && eqb (level e p) l)) [ inl h ↦ rw h ((omega arith, omega arith), rest) | inr h ↦ rw h rest ]
 
 -- No place is a member twice.
@@ -258,7 +258,7 @@ module _ (A : AwardSet) (e : Entries) (laws : Lawful 256 A) (ranged : Ranged e) 
         let ps = members e l in
         let cs = map (e .capacity) ps in
         first-keeps A (e .capacity) ps (targets (goal - total z) cs) z (members-apart e l 256 0)
-          (all-weaker (λ p. level e p ≡ l) (λ p. z p ≡ 0) empty ps (members-level e l 256 0)) (targets-bounded (goal - total z) cs) kept
+        (all-weaker (λ p. level e p ≡ l) (λ p. z p ≡ 0) empty ps (members-level e l 256 0)) (targets-bounded (goal - total z) cs) kept
 
     -- A group keeps the capacities.
     pub group-keeps : Kept (e .capacity) (workGroup A e goal l z)

@@ -8,3 +8,4 @@ pub mod Cleared
 pub mod Worthy
 pub mod Segments
 pub mod Sound
+pub mod WorkedGroups

@@ -55,7 +55,7 @@ worked-none e = record {
   untouched = λ p l. refl;
   sound = λ b l some. absurd (let no : ⊥ = omega arith in no);
   empty = λ b h. (refl, (refl, λ g. refl));
-  sums = λ g. sym (sum-none (λ b. 0))
+  sums = λ g. sym (sum-none (λ b. 0));
 }
 
 -- A number that nobody bids changes none of it.
@@ -66,7 +66,7 @@ worked-skip e b o none w = record {
   untouched = w .untouched;
   sound = λ c l some. w .sound c (earlier c l some) some;
   empty = λ c h. w .empty c (elim h [ inl l ↦ inl (omega arith) | inr f ↦ inr f ]);
-  sums = λ g. omega (arith, w .sums g, sum-suc b (λ c. o .share c g), w .empty b (inr none) .1 .1 g)
+  sums = λ g. omega (arith, w .sums g, sum-suc b (λ c. o .share c g), w .empty b (inr none) .1 .1 g);
 }
   where
     earlier : (c : ℕ) → c < suc b → someBids e c ≡ true → c < b
@@ -152,7 +152,7 @@ module _ (A : AwardSet) (e : Entries) (ranged : Ranged e) (b : ℕ) (o : Outcome
         (sweep-covers A e goal (o .next) before levels p l (ranged .classes p) (omega (arith, w .untouched p (stands-above p h), some)));
     capped-by-bid =
         subst (λ v. v ≤ b) (sym (at-same b (after .price) (o .price)))
-        (sweep-price-le A e goal (o .next) before levels b (omega arith) (omega (arith, next-le)))
+        (sweep-price-le A e goal (o .next) before levels b (omega arith) (omega (arith, next-le)));
   }
 
   -- The segments before it stay sound.
@@ -162,21 +162,27 @@ module _ (A : AwardSet) (e : Entries) (ranged : Ranged e) (b : ℕ) (o : Outcome
     awarded = sum-same 256 (keep (inSegment e c) (after .award)) (keep (inSegment e c) (o .award)) (λ p j. kept-part p) ∙ was .awarded ∙ sym quantity-same;
     buyers = λ g j has. was .buyers g j (subst (λ f. 0 < f g) shares-same has);
     covers = λ p j h has. subst (λ v. e .landed p ≤ v) (sym price-same) (was .covers p j h (omega (arith, kept-in p h, has)));
-    capped-by-bid = subst (λ v. v ≤ c) (sym price-same) (was .capped-by-bid)
+    capped-by-bid = subst (λ v. v ≤ c) (sym price-same) (was .capped-by-bid);
   }
     where
       was : Sound-segment e o c
       was = w .sound c l some
+
       other : c ≡ b → ⊥
       other same = omega arith
+
       shares-same : segment A e b o .share c ≡ o .share c
       shares-same = at-other b (λ g. getD given g 0) (o .share) c other
+
       quantity-same : segment A e b o .quantity c ≡ o .quantity c
       quantity-same = at-other b taken (o .quantity) c other
+
       price-same : segment A e b o .price c ≡ o .price c
       price-same = at-other b (after .price) (o .price) c other
+
       kept-in : (p : ℕ) → inSegment e c p ≡ true → after .award p ≡ o .award p
       kept-in p h = kept-below p (omega (arith, ranged .classes p, lands-within e c p h, w .above-bids c l some))
+
       kept-part : (p : ℕ) → keep (inSegment e c) (after .award) p ≡ keep (inSegment e c) (o .award) p
       kept-part p =
           elim (cases-bool (inSegment e c p)) [
@@ -186,10 +192,13 @@ module _ (A : AwardSet) (e : Entries) (ranged : Ranged e) (b : ℕ) (o : Outcome
 
   -- What was empty elsewhere stays so.
   still-empty : (c : ℕ) → (c ≡ b → ⊥) → Empty o c → Empty (segment A e b o) c
-  still-empty c other was =
-      (at-other b taken (o .quantity) c other ∙ was .0,
-      (at-other b (after .price) (o .price) c other ∙ was .1 .0,
-      λ g. ap (λ f. f g) (at-other b (λ g. getD given g 0) (o .share) c other) ∙ was .1 .1 g))
+  still-empty c other was = (
+    at-other b taken (o .quantity) c other ∙ was .0,
+    (
+      at-other b (after .price) (o .price) c other ∙ was .1 .0,
+      λ g. ap (λ f. f g) (at-other b (λ g. getD given g 0) (o .share) c other) ∙ was .1 .1 g,
+    ),
+  )
 
   -- A grid has got what it got in the segments, with this one.
   still-sums : (g : ℕ) → segment A e b o .got g ≡ sumTo (suc b) (λ c. segment A e b o .share c g)
@@ -210,7 +219,7 @@ module _ (A : AwardSet) (e : Entries) (ranged : Ranged e) (b : ℕ) (o : Outcome
           | inl l ↦ still-empty c (λ same. omega arith) (w .empty c (inl (omega arith)))
           | inr none ↦ still-empty c (λ same. both-ways (someBids e c) none (rw same some-b)) (w .empty c (inr none))
         ];
-    sums = still-sums
+    sums = still-sums;
   }
 
 -- It holds for the segments of the bids below any number.

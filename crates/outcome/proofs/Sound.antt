@@ -17,10 +17,11 @@ beyond-bids e n o w p above = elim (w .last-bid) [ inl z ↦ omega arith | inr d
 -- The segments of the outcome are sound.
 pub segments-are-sound : Segments-are-sound
 segments-are-sound A e lawful ranged =
-    let w = worked-below A e ranged 200001 in
-    (λ b some. w .sound b (omega (arith, bid-le e ranged b some)) some,
-    record {
-      sums = λ g l. w .sums g;
-      none = λ b not-bid. w .empty b (inr not-bid);
-      unsold = λ p l above. w .untouched p (beyond-bids e 200001 (outcome A e) w p above)
-    })
+    let w = worked-below A e ranged 200001 in (
+      λ b some. w .sound b (omega (arith, bid-le e ranged b some)) some,
+      record {
+        sums = λ g l. w .sums g;
+        none = λ b not-bid. w .empty b (inr not-bid);
+        unsold = λ p l above. w .untouched p (beyond-bids e 200001 (outcome A e) w p above);
+      },
+    )

@@ -65,7 +65,7 @@ cleared-is-worthy A e n o laws ranged bids c = record {
           | inl got ↦ absurd (omega arith)
           | inr full ↦
               full-is-most 256 (permitted A e) Q (o .award) caps member
-                (full-same (permitted A e) caps P Q (o .award) (lands-by-level e ranged (e .bid g)) (full .1 (8 * e .bid g + 7) (omega arith)))
+              (full-same (permitted A e) caps P Q (o .award) (lands-by-level e ranged (e .bid g)) (full .1 (8 * e .bid g + 7) (omega arith)))
         ]
 
 -- Over every lawful set the outcome is worthy.

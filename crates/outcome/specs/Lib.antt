@@ -3,3 +3,4 @@ pub mod View
 pub mod Groups
 pub mod Outcome
 pub mod Laws
+pub mod Worked

@@ -65,7 +65,7 @@ segment A e b o =
       quantity = at b taken (o .quantity);
       price = at b (s .price) (o .price);
       share = at b (λ g. getD given g 0) (o .share);
-      next = 8 * suc b
+      next = 8 * suc b;
     }
 
 -- the distinct bids below n, rising, make the segments

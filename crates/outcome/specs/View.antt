@@ -21,5 +21,5 @@ entriesOf e = record {
   landed = λ p. figureOf (λ t. t .landed .fen) (getD (e .tiers) p None);
   class = λ p. figureOf (λ t. classNumber (t .class)) (getD (e .tiers) p None);
   bid = λ g. figureOf (λ b. b .price .fen) (getD (e .bids) g None);
-  need = λ g. figureOf (λ b. b .need) (getD (e .bids) g None)
+  need = λ g. figureOf (λ b. b .need) (getD (e .bids) g None);
 }

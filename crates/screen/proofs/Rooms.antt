@@ -39,7 +39,7 @@ pub all-lawful : (n : ℕ) → Lawful n (λ _. true)
 all-lawful n = record {
   zero-in = refl;
   lower = λ x y le in-y. refl;
-  exchange = λ x y in-x in-y less. let k = less-somewhere n x y less in (k .0, k .1, k .2, refl)
+  exchange = λ x y in-x in-y less. let k = less-somewhere n x y less in (k .0, k .1, k .2, refl);
 }
 
 pub open-room : (p : ℕ) → p < 256 → roomAt (λ _. true) p ≡ 20000

@@ -1,0 +1,4 @@
+pub mod Awarded
+pub mod Sequence
+pub mod Declaration
+pub mod Progress
