@@ -9,13 +9,11 @@ use Rattle.market.proofs.Capacities.{adds-up, adds-up-from-zero}
 use Rattle.market.proofs.WorkedByHand.{worked-capacities}
 use Rattle.market.proofs.bands.capacity.Needs as need
 
--- src/bands.rt:90:9
 pub returns-then-band-band-count : need.returns-then-band-band-count
 returns-then-band-band-count g c =
     let law = g .S·BandScheme·met .rising in
     record { value = search needs; sum = adds-up _ (figuresOf (c .args .figures .now)) law (search needs); sum-from-zero = adds-up-from-zero _ (figuresOf (c .args .figures .now)) law (search needs); worked = worked-capacities }
 
--- src/bands.rt:84:1
 pub returns : need.returns
 returns g c =
     let law = g .S·BandScheme·met .rising in
