@@ -1,3 +1,5 @@
+#![tactic(auto)]
+
 // What a day shows after a list of calls: definitions and laws.
 ghost use Rattle.std.specs.Prelude.{◌≡◌, ◌+◌, ◌*◌, ◌/◌, ◌%◌};
 ghost use Rattle.book.specs.Promise.{Promise};

@@ -1,3 +1,5 @@
+#![tactic(auto)]
+
 // Clears a day: reads a strip of tariffs and the sheets behind it from standard input, and prints the lines that they bring.
 ghost use Rattle.std.specs.Prelude.{◌≤◌, length, IfOk};
 ghost use Rattle.market.specs.Maxima.{listing_room};

@@ -1,3 +1,5 @@
+#![tactic(auto)]
+
 // The clearing of a point, over any screen.
 mod bids;
 mod groups;

@@ -1,3 +1,5 @@
+#![tactic(auto)]
+
 // The screen with a tree of corridors: all units below a corridor, at any depth, together keep its limit.
 ghost use Rattle.std.specs.Prelude.{◌≡◌, ℕ, ◌/◌, ◌<◌, ◌≤◌, [], ◌∷◌, replicate, slice_index, slice_index_or};
 ghost use Rattle.std.proofs.Common.{ap};

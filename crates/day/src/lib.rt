@@ -1,3 +1,5 @@
+#![tactic(auto)]
+
 // A day of the reserve market: its calls, its accounts and its close.
 ghost use Rattle.day.specs.Shown.{shown_of, money_of};
 ghost use Rattle.day.specs.Followed.{Followed, Settled};

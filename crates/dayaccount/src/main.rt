@@ -1,3 +1,5 @@
+#![tactic(auto)]
+
 // Prints a readable account of a day of one quarter hour, from declared figures through all calls of the day to the money of all parties.
 
 mod calls;

@@ -1,3 +1,5 @@
+#![tactic(auto)]
+
 // Reads a script of calls from standard input, a line each, and prints the answer of every call and read.
 mod commands;
 mod replies;

@@ -1,3 +1,5 @@
+#![tactic(auto)]
+
 // A day from bytes to bytes: a strip of tariffs and sheets go in, lines of text come out.
 ghost use Rattle.std.specs.Prelude.{◌≡◌, ℕ, ◌≤◌, false, List, ◌++◌, length, is_ok, IfOk};
 ghost use Rattle.market.specs.Entries.{market_answer};

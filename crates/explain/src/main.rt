@@ -1,3 +1,5 @@
+#![tactic(auto)]
+
 // Prints a readable account of one quarter hour, from declared figures to awards, shares and prices.
 
 mod clearings;

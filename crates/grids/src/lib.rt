@@ -1,3 +1,5 @@
+#![tactic(auto)]
+
 // The grid screen: each unit, 0 to 63, hangs on a grid, 0 to 15, and the units of a grid together keep its limit.
 ghost use Rattle.std.specs.Prelude.{◌≡◌, ◌/◌, ◌<◌, [], ◌∷◌, replicate, slice_index};
 ghost use Rattle.grids.specs.GridSets.{hangs_of, settings_of, fresh_of, ontop_of};

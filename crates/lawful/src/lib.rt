@@ -1,3 +1,5 @@
+#![tactic(auto)]
+
 ghost use Rattle.std.specs.Prelude.{◌≡◌, false, slice_index, slice_index_or};
 ghost use Rattle.lawful.specs.Awards.{cost, within};
 ghost use Rattle.lawful.specs.Lawful.{AboveKeepsLaws, CapsKeepLaws, NestedGroupsAreLawful, SumsByClassKeepLaws, TotalLimitKeepsLaws};

@@ -1,3 +1,5 @@
+#![tactic(auto)]
+
 // Lines of decimal fields, written into a buffer of the caller.
 ghost use Rattle.std.specs.Prelude.{◌≡◌, ◌+◌, ◌≤◌, length, if◌then◌else◌, Some, None, nat_le};
 ghost use Rattle.lines.specs.Lines.{DigitsAreDigits, DigitsReadBack, NoLeadingZero, WorkedLine, digits, field, fields_of, fits, line_of, written};

@@ -1,3 +1,5 @@
+#![tactic(auto)]
+
 // The listing of a cleared point and of a closed day, written into a buffer of the caller.
 ghost use Rattle.std.specs.Prelude.{◌≡◌, ◌≤◌, length, IfOk};
 ghost use Rattle.market.specs.Entries.{market_answer};

@@ -1,3 +1,5 @@
+#![tactic(auto)]
+
 // A sheet loaded onto a running day and its screen, and the strip of tariffs.
 pub mod faults;
 pub mod sheets;

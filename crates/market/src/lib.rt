@@ -1,3 +1,5 @@
+#![tactic(auto)]
+
 // The figures and rules of the reserve market that every later step rests on.
 pub mod bands;
 pub mod checks;

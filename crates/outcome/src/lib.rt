@@ -1,3 +1,5 @@
+#![tactic(auto)]
+
 // What clearing a point yields, by its entries and what the screen permits; and what that is worth. Types, definitions and laws.
 use market::tiers::{Bid, Tier};
 

@@ -1,3 +1,5 @@
+#![tactic(auto)]
+
 // A whole day on one call: what every list of calls brings.
 ghost use Rattle.std.specs.Prelude.{◌≡◌, false, is_ok, IfOk};
 ghost use Rattle.day.specs.Day.{shown, stage_read};

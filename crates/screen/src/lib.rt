@@ -1,3 +1,5 @@
+#![tactic(auto)]
+
 // Screens: what security staff put under the clearing.
 // A screen means two sets of awards: the fresh set, permitted at the start, and the open set, permitted on top of what was taken.
 ghost use Rattle.std.specs.Prelude.{◌≡◌, ℕ, ◌+◌, Bool, true, false, cond, List, [], is_ok};

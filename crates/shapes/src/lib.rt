@@ -1,3 +1,5 @@
+#![tactic(auto)]
+
 // A base screen under at most one cap and one ceiling layer, in either order.
 ghost use Rattle.std.specs.Prelude.{◌≡◌, true, false, [], ◌∷◌, replicate};
 ghost use Rattle.std.specs.Option.{option_map};

@@ -1,3 +1,5 @@
+#![tactic(auto)]
+
 // Stacks over all three bases as one kind of value, so that one list can hold screens of every kind.
 ghost use Rattle.std.specs.Prelude.{◌≡◌, true, false};
 ghost use Rattle.std.specs.Option.{option_map};
