@@ -15,8 +15,8 @@ item_most c =
     let each : c.from-in-loop-p.result ≤ 4294967295 = omega (arith, c.fits-price c.loop-p.p) in
     mul-le-mul quantity each
 
-pub overflow-add-sum : goal.overflow-add-sum
-overflow-add-sum c = let most = item_most c in omega arith
+pub overflow_add-sum : goal.overflow_add-sum
+overflow_add-sum c = let most = item_most c in omega arith
 
 pub loop-p-preserved : goal.loop-p-preserved
 loop-p-preserved c =

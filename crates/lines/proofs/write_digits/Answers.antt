@@ -3,8 +3,8 @@ use Rattle.lines.proofs.Digits.{digits_some, length_digits_one, length_digits_mo
 use Rattle.lines.proofs.Lines.{last_digit_written, first_digit_written}
 use Rattle.lines.proofs.write_digits.Goals as goal
 
-pub overflow-sub-place : goal.overflow-sub-place
-overflow-sub-place c = omega (arith, digits_some c.loop-rest.rest)
+pub overflow_sub-place : goal.overflow_sub-place
+overflow_sub-place c = omega (arith, digits_some c.loop-rest.rest)
 
 pub bounds-buffer-place : goal.bounds-buffer-place
 bounds-buffer-place c = omega (arith, digits_some c.loop-rest.rest)

@@ -6,5 +6,5 @@ use Rattle.lines.proofs.write_field.Goals as goal
 pub returns : goal.returns
 returns c = record {
   end = omega arith;
-  bytes = c.write-digits.ensures.bytes ∙ byte_then_written c.args.buffer.now c.args.at 32 (digits c.args.number) (omega arith);
+  bytes = c.write_digits.ensures.bytes ∙ byte_then_written c.args.buffer.now c.args.at 32 (digits c.args.number) (omega arith);
 }

@@ -28,12 +28,12 @@ returns c =
     let answer = end_of_line (Some c.in-Some.end) at (length b) c.args.letter c.args.fields.now c.in-Some.ensures in
     let yes = answered_true (fits b at line) c.in-Some.end (at + length line) answer in
     let room = leb-true (at + length line) (length b) yes in
-    let last = c.write-fields-last.result in
+    let last = c.write_fields-last.result in
     record {
       end = answer;
       bytes =
-          ap (λ w. set w last 10) c.write-fields-last.ensures.bytes
-          ∙ line_written b at c.args.letter last c.args.fields.now c.write-fields-last.ensures.end (omega (arith, length_line_of c.args.letter c.args.fields.now))
+          ap (λ w. set w last 10) c.write_fields-last.ensures.bytes
+          ∙ line_written b at c.args.letter last c.args.fields.now c.write_fields-last.ensures.end (omega (arith, length_line_of c.args.letter c.args.fields.now))
           ∙ sym (cond-true (fits b at line) (written b at line) b yes);
       read_back = digits_read_back;
       figures = digits_are_digits;

@@ -10,10 +10,10 @@ use Rattle.listings.proofs.list_closing.Goals as goal
 pub returns : goal.returns
 returns c =
     let m = accounts c.args.day.now in
-    let charged = c.write-charges-charged in
-    let paid = c.write-units-paid in
-    let wired = c.write-wires-wired in
-    let all = c.write-branch in
+    let charged = c.write_charges-charged in
+    let paid = c.write_units-paid in
+    let wired = c.write_wires-wired in
+    let all = c.write_branch in
     let money = c.branch-fen.ensures.money.0 in
     let kept = c.branch-fen.result.0 * 40 + c.branch-fen.result.1 in
     let listed = four_written c.args.buffer.now (lines_to 16 (charge_line m)) (lines_to 64 (unit_line m)) (lines_to 16 (wires_line m)) (branch_line m.branch)
@@ -21,7 +21,7 @@ returns c =
     charged.ensures.end charged.ensures.bytes paid.ensures.end paid.ensures.bytes wired.ensures.end wired.ensures.bytes
     (all.ensures.end ∙ ap (λ (k : ℕ). wired.result + length (branch_line k)) money) (all.ensures.bytes ∙ ap (λ (k : ℕ). written wired.new.buffer wired.result (branch_line k)) money) in
     record {
-      answer = closing_answer (length c.args.buffer.now) (omega (arith, c.if-buffer-lt-LISTING-ROOM.false));
+      answer = closing_answer (length c.args.buffer.now) (omega (arith, c.if-buffer-lt-LISTING_ROOM.false));
       long = listed.0;
       few = omega (arith, charged.ensures.few, paid.ensures.few, wired.ensures.few, all.ensures.end, two_long 82 (kept / 40) (kept % 40));
       bytes = listed.1;

@@ -21,14 +21,14 @@ loop-k-init g c =
       room.capacity,
     )
 
-pub push-reserved-requires : goal.push-reserved-requires
-push-reserved-requires g c = omega (arith, c.loop-k.invariant.0.made, c.loop-k.invariant.1, c.loop-k.steps.ok.0, c.loop-k-test.true)
+pub push_reserved-requires : goal.push_reserved-requires
+push_reserved-requires g c = omega (arith, c.loop-k.invariant.0.made, c.loop-k.invariant.1, c.loop-k.steps.ok.0, c.loop-k-test.true)
 
 pub loop-k-preserved : goal.loop-k-preserved
 loop-k-preserved g c =
     let at = c.loop-k in
     let step = c.make-step in
-    let pushed = c.push-reserved in (
+    let pushed = c.push_reserved in (
       running_more g.S.Screen (λ s. g.met.S.Screen.fresh_lawful s) c.args.calls.now at.k (vec_items at.steps) (vec_items pushed.new.self)
           at.calls (shown at.day) (shown step.new.day) (get_or at.calls at.k c.index-calls-k.result) c.index-calls-k.result step.new.call step.result
           at.invariant.0 (omega (arith, at.auto.calls, c.loop-k-test.true)) refl pushed.ensures.items

@@ -5,8 +5,8 @@ use Rattle.clearing.specs.Awarded.{award_of}
 use Rattle.clearing.proofs.Rounds.{second_step, second_done}
 use Rattle.clearing.proofs.groups.second_round.Goals as goal
 
-pub take-up-to-left-requires : goal.take-up-to-left-requires
-take-up-to-left-requires g c =
+pub take_up_to-left-requires : goal.take_up_to-left-requires
+take_up_to-left-requires g c =
     let inv = c.loop-tier.invariant in
     let same = g.met.S.Screen.decided c.loop-tier.screen c.args.screen.now inv.1 in
     record {
@@ -18,7 +18,7 @@ take-up-to-left-requires g c =
 pub loop-tier-preserved : goal.loop-tier-preserved
 loop-tier-preserved g c =
     let inv = c.loop-tier.invariant in
-    let take = c.take-up-to-left in
+    let take = c.take_up_to-left in
     let A = g.S.Screen.fresh c.args.screen.now in
     let z = award_of c.loop-tier.awards in
     let y = award_of take.new.awards in
@@ -28,7 +28,7 @@ loop-tier-preserved g c =
     let goal = total (award_of c.args.awards.now) + c.args.want in
     let same : g.S.Screen.fresh c.loop-tier.screen ≡ A = g.met.S.Screen.decided c.loop-tier.screen c.args.screen.now inv.1 in
     let read : z c.from.result ≡ z p = ap z c.from.ensures in
-    let asked : c.min.result ≡ min left (t.capacity - z p) = omega (arith, read, c.min.ensures, c.saturating-sub-more.ensures, c.from-in-loop-tier.ensures) in
+    let asked : c.min.result ≡ min left (t.capacity - z p) = omega (arith, read, c.min.ensures, c.saturating_sub-more.ensures, c.from-in-loop-tier.ensures) in
     let took : take.result ≡ min (min left (t.capacity - z p)) (room_over A z p) =
     take.ensures.taken ∙ ap (λ B. min c.min.result (room_over B z p)) same ∙ ap (λ q. min q (room_over A z p)) asked in (
       take.ensures.long,

@@ -9,19 +9,19 @@ use Rattle.clearing.specs.Awarded.{award_of}
 use Rattle.clearing.proofs.Takes.{accepted, above_raised, raised_list, total_after}
 use Rattle.clearing.proofs.groups.take_up_to.Goals as goal
 
-pub overflow-add-awards : goal.overflow-add-awards
-overflow-add-awards g c =
+pub overflow_add-awards : goal.overflow_add-awards
+overflow_add-awards g c =
     let xs = c.args.awards.now in
     let inside : c.from.result < 256 = search rules in
     omega (arith, term_le_sum 256 (award_of xs) c.from.result inside)
 
 -- The take is within the room, so it is accepted.
-pub returns-then-is-err : goal.returns-then-is-err
-returns-then-is-err g c =
+pub returns-then-is_err : goal.returns-then-is_err
+returns-then-is_err g c =
     let O = g.S.Screen.ontop c.args.screen.now in
     let inside : c.from-at.result < 256 = search rules in
     let within : c.min-taken.result ≤ room_at O c.from-at.result = omega (arith, c.min-taken.ensures, c.room.ensures) in
-    absurd (both_ways (is_ok c.take.result) c.if-is-err.ensures.negation (accepted c.take.result O c.from-at.result c.min-taken.result inside within c.take.ensures.answer))
+    absurd (both_ways (is_ok c.take.result) c.if-is_err.ensures.negation (accepted c.take.result O c.from-at.result c.min-taken.result inside within c.take.ensures.answer))
 
 pub returns : goal.returns
 returns g c =
@@ -39,7 +39,7 @@ returns g c =
       award = award;
       more = total_after (award_of xs) (award_of (set xs c.from.result (get_or xs c.from.result 0 + q))) p q (omega (arith, c.from.ensures, c.requires.long)) award;
       «open» =
-          c.take.ensures.taken c.if-is-err.ensures.negation
+          c.take.ensures.taken c.if-is_err.ensures.negation
           ∙ ap (λ B. after_take B at q) c.requires.open
           ∙ above_raised A (award_of xs) at q
           ∙ ap (λ z. above z A) (ap (λ k. raise (award_of xs) k q) c.from-at.ensures ∙ sym award);

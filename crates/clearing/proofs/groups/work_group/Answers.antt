@@ -5,9 +5,9 @@ use Rattle.clearing.specs.Awarded.{award_of, places_of, capacities_of}
 use Rattle.clearing.proofs.Rounds.{two_rounds}
 use Rattle.clearing.proofs.groups.work_group.Goals as goal
 
-pub second-round-requires : goal.second-round-requires
-second-round-requires g c =
-    let first = c.first-round-first in
+pub second_round-requires : goal.second_round-requires
+second_round-requires g c =
+    let first = c.first_round-first in
     let same = g.met.S.Screen.decided first.new.screen c.args.screen.now first.ensures.set in
     record {
       long = first.ensures.long;
@@ -17,8 +17,8 @@ second-round-requires g c =
 
 pub returns : goal.returns
 returns g c =
-    let first = c.first-round-first in
-    let second = c.second-round in
+    let first = c.first_round-first in
+    let second = c.second_round in
     let A = g.S.Screen.fresh c.args.screen.now in
     let ps = places_of c.args.group.now in
     let cs = capacities_of c.args.group.now in

@@ -26,11 +26,11 @@ loop-at-init g c =
       λ e low s cut. worked_none fresh e (total z + c.args.want) c.args.ranked.now s low z c.args.from c.requires.few.0 cut,
     )
 
-pub work-group-more-requires : goal.work-group-more-requires
-work-group-more-requires g c =
+pub work_group-more-requires : goal.work_group-more-requires
+work_group-more-requires g c =
     let inv = c.loop-at.invariant in
     let at = c.loop-at.at in
-    let end = c.group-end-end.result in
+    let end = c.group_end-end.result in
     let ts = c.args.ranked.now in
     record {
       few = omega (arith, length-take (end - at) (drop at ts), length-drop at ts, c.requires.few.1);
@@ -42,16 +42,16 @@ work-group-more-requires g c =
 pub loop-at-preserved : goal.loop-at-preserved
 loop-at-preserved g c =
     let inv = c.loop-at.invariant in
-    let more = c.work-group-more.ensures in
-    let group = c.group-end-end.ensures in
+    let more = c.work_group-more.ensures in
+    let group = c.group_end-end.ensures in
     let ts = c.args.ranked.now in
     let i = c.loop-at.at in
-    let j = c.group-end-end.result in
+    let j = c.group_end-end.result in
     let tier = get_or ts i c.index-ranked-at.result in
     let fresh = g.S.Screen.fresh c.args.screen.now in
     let start = award_of c.args.awards.now in
     let z = award_of c.loop-at.awards in
-    let y = award_of c.work-group-more.new.awards in
+    let y = award_of c.work_group-more.new.awards in
     let goal = total start + c.args.want in
     let one-goal : total z + (c.args.want - c.loop-at.quantity) ≡ goal = omega (arith, inv.3, inv.4) in
     let one_set : g.S.Screen.fresh c.loop-at.screen ≡ fresh = g.met.S.Screen.decided c.loop-at.screen c.args.screen.now inv.6 in

@@ -2,8 +2,8 @@ use Rattle.std.proofs.Common.{◌+◌, get_or, refl, ◌∙◌, arith, length-se
 use Rattle.clearing.proofs.OpenNeeds.{added_none, added_not_yet, added_more, added_all}
 use Rattle.clearing.proofs.needs.add_shares.Goals as goal
 
-pub overflow-add-got : goal.overflow-add-got
-overflow-add-got c =
+pub overflow_add-got : goal.overflow_add-got
+overflow_add-got c =
     let i = c.loop-grid.grid in
     omega (arith, c.requires.fits i, c.loop-grid.invariant.1 i, added_not_yet c.args.got.now c.args.shares.now i)
 

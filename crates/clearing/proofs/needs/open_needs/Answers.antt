@@ -8,24 +8,24 @@ use Rattle.clearing.specs.Sequence.{buyers_of, open_need}
 use Rattle.clearing.proofs.OpenNeeds.{claim_written}
 use Rattle.clearing.proofs.needs.open_needs.Goals as goal
 
-pub overflow-add-all : goal.overflow-add-all
-overflow-add-all c = omega (arith, c.loop-grid.invariant.3, c.open-need-want.ensures.bound)
+pub overflow_add-all : goal.overflow_add-all
+overflow_add-all c = omega (arith, c.loop-grid.invariant.3, c.open_need-want.ensures.bound)
 
 pub loop-grid-preserved : goal.loop-grid-preserved
 loop-grid-preserved c =
     let i = c.loop-grid.grid in
-    let want = c.open-need-want.result in
+    let want = c.open_need-want.result in
     let bids = c.args.bids.now in
     let got = award_of c.args.got.now in
     let inv = c.loop-grid.invariant in
     let slot : c.index-bids-grid.result ≡ get_or bids i None = get_or_read_under bids i 16 c.index-bids-grid.result None c.index-bids-grid.is (omega arith) (omega arith) in
     let is-claim : want ≡ open_need (get_or bids i None) (got i) c.args.bid =
-    c.open-need-want.ensures.value ∙ ap (λ s. open_need s (got i) c.args.bid) slot in
+    c.open_need-want.ensures.value ∙ ap (λ s. open_need s (got i) c.args.bid) slot in
     let more = ap sum (take_more_set c.loop-grid.wants i want (omega (arith, inv.0))) ∙ sum_by_push (λ x. x) (take i c.loop-grid.wants) want in (
       length-set c.loop-grid.wants i want ∙ inv.0,
       claim_written (buyers_of bids) got c.args.bid c.loop-grid.wants i want (omega arith) inv.0 inv.1 is-claim,
       ap (λ n. n + want) inv.2 ∙ sym more,
-      omega (arith, inv.3, c.open-need-want.ensures.bound),
+      omega (arith, inv.3, c.open_need-want.ensures.bound),
     )
 
 pub returns : goal.returns

@@ -23,7 +23,7 @@ loop-bid-init g c =
     let A = g.S.Screen.fresh first in
     let none : (p : ℕ) → get_or blank.awards p 0 ≡ 0 = λ p. ap (λ xs. get_or xs p 0) told.awards ∙ zeros_at 256 p in
     let same : g.S.Screen.fresh c.args.screen.now ≡ A = sym (g.met.S.Screen.decided first c.args.screen.now c.reset.ensures.set) in (
-      reached_none A (entries_of c.args.entries.now) (take c.form-sequence-count.result c.form-sequence-count.new.ranked) blank
+      reached_none A (entries_of c.args.entries.now) (take c.form_sequence-count.result c.form_sequence-count.new.ranked) blank
           none
           (λ k. ap (λ xs. get_or xs k 0) told.got ∙ zeros_at 16 k)
           told.segments.1
@@ -35,38 +35,38 @@ loop-bid-init g c =
       omega arith,
     )
 
-pub work-segment-at-requires : goal.work-segment-at-requires
-work-segment-at-requires g c =
+pub work_segment-at-requires : goal.work_segment-at-requires
+work_segment-at-requires g c =
     let e = entries_of c.args.entries.now in
-    let ts = take c.form-sequence-count.result c.form-sequence-count.new.ranked in
+    let ts = take c.form_sequence-count.result c.form_sequence-count.new.ranked in
     let inv = c.loop-bid.invariant in
     let next = c.in-Some.ensures in
-    let long : length ts ≡ c.form-sequence-count.result = omega (arith, length-take c.form-sequence-count.result c.form-sequence-count.new.ranked, c.form-sequence-count.auto.ranked, c.form-sequence-count.ensures.within) in
+    let long : length ts ≡ c.form_sequence-count.result = omega (arith, length-take c.form_sequence-count.result c.form_sequence-count.new.ranked, c.form_sequence-count.auto.ranked, c.form_sequence-count.ensures.within) in
     record {
-      few = (omega (arith, inv.4), omega (arith, c.form-sequence-count.ensures.within));
+      few = (omega (arith, inv.4), omega (arith, c.form_sequence-count.ensures.within));
       bidden = next.1;
-      sequence = c.form-sequence-count.ensures.sequence;
+      sequence = c.form_sequence-count.ensures.sequence;
       reached = reached_between (g.S.Screen.fresh c.loop-bid.screen) e c.loop-bid.from c.in-Some.bid ts c.loop-bid.at c.loop-bid.cleared next.0 next.2 inv.0;
       «open» = inv.1;
     }
 
-pub overflow-add-from : goal.overflow-add-from
-overflow-add-from g c = let e = c.args.entries.now in omega (arith, bid_le (entries_of e) (entries_ranged e) c.in-Some.bid c.in-Some.ensures.1)
+pub overflow_add-from : goal.overflow_add-from
+overflow_add-from g c = let e = c.args.entries.now in omega (arith, bid_le (entries_of e) (entries_ranged e) c.in-Some.bid c.in-Some.ensures.1)
 
 pub loop-bid-preserved : goal.loop-bid-preserved
 loop-bid-preserved g c =
     let entries = c.args.entries.now in
     let e = entries_of entries in
     let b = c.in-Some.bid in
-    let ts = take c.form-sequence-count.result c.form-sequence-count.new.ranked in
-    let worked = c.work-segment-at in
+    let ts = take c.form_sequence-count.result c.form_sequence-count.new.ranked in
+    let worked = c.work_segment-at in
     let same : g.S.Screen.fresh c.loop-bid.screen ≡ g.S.Screen.fresh worked.new.screen =
     sym (g.met.S.Screen.decided worked.new.screen c.loop-bid.screen worked.ensures.set) in (
       subst (λ A. Reached A e (b + 1) ts worked.result worked.new.cleared) same (rw add-one worked.ensures.reached),
       subst (λ A. g.S.Screen.ontop worked.new.screen ≡ above (award_of worked.new.cleared.awards) A) same worked.ensures.open,
       worked.ensures.set ∙ c.loop-bid.invariant.2,
       omega (arith, bid_le e (entries_ranged entries) b c.in-Some.ensures.1),
-      omega (arith, worked.ensures.within, length-take c.form-sequence-count.result c.form-sequence-count.new.ranked),
+      omega (arith, worked.ensures.within, length-take c.form_sequence-count.result c.form_sequence-count.new.ranked),
     )
 
 pub loop-bid-smaller : goal.loop-bid-smaller
@@ -80,7 +80,7 @@ returns g c =
     let e = entries_of entries in
     let A = g.S.Screen.fresh c.args.screen.now in
     let laws = g.met.S.Screen.fresh_lawful c.args.screen.now in
-    let ts = take c.form-sequence-count.result c.form-sequence-count.new.ranked in
+    let ts = take c.form_sequence-count.result c.form_sequence-count.new.ranked in
     let inv = c.loop-bid.invariant in
     let set = inv.2 ∙ c.reset.ensures.set in
     let same : g.S.Screen.fresh c.loop-bid.screen ≡ A = g.met.S.Screen.decided c.loop-bid.screen c.args.screen.now set in

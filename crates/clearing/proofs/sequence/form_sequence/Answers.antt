@@ -7,11 +7,11 @@ use Rattle.clearing.proofs.sequence.form_sequence.Goals as goal
 
 pub returns : goal.returns
 returns c =
-    let count = c.collect-tiers-count.result in
-    let tiers = c.collect-tiers-count.new.ranked in
-    let items = c.put-in-rank.new.items in
-    let long : length items ≡ count = omega (arith, length_permutation (take count tiers) items c.put-in-rank.ensures.kept, length-take count tiers, c.collect-tiers-count.auto.ranked) in
+    let count = c.collect_tiers-count.result in
+    let tiers = c.collect_tiers-count.new.ranked in
+    let items = c.put_in_rank.new.items in
+    let long : length items ≡ count = omega (arith, length_permutation (take count tiers) items c.put_in_rank.ensures.kept, length-take count tiers, c.collect_tiers-count.auto.ranked) in
     record {
-      within = c.collect-tiers-count.ensures.within;
-      sequence = rw (take_at items (drop count tiers) count long) (sequence_of_entries c.args.entries.now items (sequence_ranked (sellers_of c.args.entries.now.tiers) (take count tiers) items c.collect-tiers-count.ensures.collected c.put-in-rank.ensures.kept c.put-in-rank.ensures.ranked));
+      within = c.collect_tiers-count.ensures.within;
+      sequence = rw (take_at items (drop count tiers) count long) (sequence_of_entries c.args.entries.now items (sequence_ranked (sellers_of c.args.entries.now.tiers) (take count tiers) items c.collect_tiers-count.ensures.collected c.put_in_rank.ensures.kept c.put_in_rank.ensures.ranked));
     }

@@ -4,9 +4,9 @@ use Rattle.corridors.specs.ByCorridor.{by_corridor}
 use Rattle.corridors.specs.Rooms.{lowered_is_taken, room_is_left}
 use Rattle.corridors.proofs.CorridorScreenScreen.take.Goals as goal
 
-pub lower-left-requires : goal.lower-left-requires
-lower-left-requires c =
-    rw c.corridor-of-corridor.ensures
+pub lower_left-requires : goal.lower_left-requires
+lower_left-requires c =
+    rw c.corridor_of-corridor.ensures
     record {
       falling = c.args.self.now.falling;
       known = c.args.self.now.hung _;
@@ -17,7 +17,7 @@ pub returns : goal.returns
 returns c =
     record {
       answer = take_within (by_corridor c.args.self.now.left c.args.self.now.hangs c.args.self.now.parents) c.args.place c.args.quantity (omega arith) (omega arith);
-      taken = λ _. lowered_is_taken c.args.self.now.left c.args.self.now.hangs c.args.self.now.parents c.args.place (omega arith) c.lower-left.new.left c.args.quantity (rw c.corridor-of-corridor.ensures at c.lower-left.ensures);
+      taken = λ _. lowered_is_taken c.args.self.now.left c.args.self.now.hangs c.args.self.now.parents c.args.place (omega arith) c.lower_left.new.left c.args.quantity (rw c.corridor_of-corridor.ensures at c.lower_left.ensures);
       set = refl;
       declined = search rules;
     }

@@ -8,6 +8,6 @@ returns c =
     let read = account_read rows c.args.grid (record { fortieths = 0 }) (omega arith) in
     let known : c.from.result ≡ c.args.grid = search rules in
     let row = ap (λ k. (get_or rows k (record { fortieths = 0 })).fortieths) known in
-    let exact = c.whole-fen.ensures.exact in
-    let part = c.whole-fen.ensures.value.1 in
+    let exact = c.whole_fen.ensures.exact in
+    let part = c.whole_fen.ensures.value.1 in
     record { answer = search rules; money = (omega (arith, read, row, exact, c.fortieths.ensures), omega (arith, part)) }

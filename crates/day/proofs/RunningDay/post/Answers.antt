@@ -23,19 +23,19 @@ post-requires c =
 pub invariant-of-self : goal.invariant-of-self
 invariant-of-self c =
     let d = c.args.self.now in
-    let told = c.remove-entries.ensures in
-    let after = shown_of (d.posted + 1) d.entered c.remove-entries.new.self Entering c.post.new.ledger in
+    let told = c.remove_entries.ensures in
+    let after = shown_of (d.posted + 1) d.entered c.remove_entries.new.self Entering c.post.new.ledger in
     let shows : after ≡ turn post (shown d) =
-    post_turn d.posted d.entered d.register d.state c.in-Cleared.cleared d.ledger c.remove-entries.new.self c.post.new.ledger
+    post_turn d.posted d.entered d.register d.state c.in-Cleared.cleared d.ledger c.remove_entries.new.self c.post.new.ledger
     c.in-Cleared.is c.in-ok-admit.ensures told.others told.offers told.bids c.post.ensures in
     (led_on (shown d) after d.state Entering post d.followed shows tt, tt)
 
 pub returns : goal.returns
 returns c =
     let d = c.args.self.now in
-    let told = c.remove-entries.ensures in
+    let told = c.remove_entries.ensures in
     record {
       answer = c.in-ok-admit.ensures;
-      day = post_turn d.posted d.entered d.register d.state c.in-Cleared.cleared d.ledger c.remove-entries.new.self c.post.new.ledger
+      day = post_turn d.posted d.entered d.register d.state c.in-Cleared.cleared d.ledger c.remove_entries.new.self c.post.new.ledger
           c.in-Cleared.is c.in-ok-admit.ensures told.others told.offers told.bids c.post.ensures;
     }

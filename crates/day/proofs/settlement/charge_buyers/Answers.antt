@@ -6,8 +6,8 @@ use Rattle.day.proofs.Charges.{charged_beyond}
 use Rattle.day.proofs.Raised.{raised_none, raised_next, raised_more, raised_all}
 use Rattle.day.proofs.settlement.charge_buyers.Goals as goal
 
-pub charge-over-charge-requires : goal.charge-over-charge-requires
-charge-over-charge-requires c = record {
+pub charge_over-charge-requires : goal.charge_over-charge-requires
+charge_over-charge-requires c = record {
   known = c.loop-grid-test.true;
   fits = omega (arith, c.requires c.loop-grid.grid c.loop-grid-test.true);
 }
@@ -18,7 +18,7 @@ charge-requires c =
     let here = raised_next (account_at c.args.ledger.now.charges) (charged_over c.args.segments.now) g (account_at c.loop-grid.ledger.charges) c.loop-grid.invariant.0 in
     record {
       known = c.loop-grid-test.true;
-      fits = omega (arith, here, c.charge-over-charge.ensures, c.requires g c.loop-grid-test.true);
+      fits = omega (arith, here, c.charge_over-charge.ensures, c.requires g c.loop-grid-test.true);
     }
 
 pub loop-grid-init : goal.loop-grid-init
@@ -31,7 +31,7 @@ loop-grid-preserved c =
     let inv = c.loop-grid.invariant in
     let others = c.charge.ensures.others in (
       raised_more (account_at c.args.ledger.now.charges) (charged_over c.args.segments.now) g before inv.0 (account_at c.charge.new.self.charges)
-          (c.charge.ensures.charges ∙ ap (λ n. at g (before g + n) before) c.charge-over-charge.ensures),
+          (c.charge.ensures.charges ∙ ap (λ n. at g (before g + n) before) c.charge_over-charge.ensures),
       others.0 ∙ inv.1,
       others.1 ∙ inv.2,
       others.2 ∙ inv.3,

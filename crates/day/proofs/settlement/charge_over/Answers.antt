@@ -8,8 +8,8 @@ use Rattle.day.proofs.settlement.charge_over.Goals as goal
 abbrev none : Segment
 none = record { bid = 0; quantity = 0; price = 0; shares = [] }
 
-pub overflow-add-all : goal.overflow-add-all
-overflow-add-all c =
+pub overflow_add-all : goal.overflow_add-all
+overflow_add-all c =
     let rows = c.args.segments.now in
     let i = c.loop-segment.segment-index in
     omega (

@@ -10,8 +10,8 @@ use Rattle.day.proofs.Postings.{Paid, paid_none, paid_nothing, paid_all, unoffer
 use Rattle.day.proofs.settlement.pay_sellers.Goals as goal
 use Rattle.day.proofs.settlement.pay_sellers.Goals.{in-Some, in-default}
 
-pub pay-seller-requires : goal.pay-seller-requires
-pay-seller-requires c =
+pub pay_seller-requires : goal.pay_seller-requires
+pay_seller-requires c =
     let r = c.args.register.now in
     let l = c.args.ledger.now in
     let cleared = c.args.cleared.now in
@@ -50,11 +50,11 @@ loop-unit-preserved c =
     elim c.match-offer.branch [
       | in-Some w ↦
           let stands = sym c.offer.ensures ∙ w.in-Some.is in
-          let told = w.pay-seller.ensures in
+          let told = w.pay_seller.ensures in
           subst done (sym w.ledger-is) (
             offered_paid r l cleared (take (cleared.count - 0) cleared.segments) u w.in-Some.offer w.charges-charges.result c.requires.read (whole_rows cleared) stands w.charges-charges.ensures
                 units wires branch c.loop-unit.invariant.0
-                (account_at w.pay-seller.new.ledger.units) (account_at w.pay-seller.new.ledger.wires) w.pay-seller.new.ledger.branch.fortieths
+                (account_at w.pay_seller.new.ledger.units) (account_at w.pay_seller.new.ledger.wires) w.pay_seller.new.ledger.branch.fortieths
                 told.units told.wires told.branch,
             told.charges ∙ c.loop-unit.invariant.1,
           )

@@ -15,7 +15,7 @@ returns c =
     let y = shown c.post.new.self in
     let cleared = c.clear.ensures.day in
     let desk = clear_leaves v x t cleared.0 c.requires.point cleared.2 in
-    let listing = c.write-listing-end.ensures in
+    let listing = c.write_listing-end.ensures in
     record {
       shows = settle_leaves v x y t (settings_of c.clear.new.screen) cleared.0 c.requires.point cleared.2 c.post.ensures.day c.clear.ensures.set.0;
       long = listing.long ∙ ap (λ (d : Desk). length (point_listing d.0)) desk;

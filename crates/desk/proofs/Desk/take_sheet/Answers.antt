@@ -37,6 +37,6 @@ returns-in-Err c =
     let x : Desk = (shown c.load.new.day, settings_of c.load.new.screen) in
     let e : Refusal × ℕ = (refusal_in c.in-Err.fault, position_in c.in-Err.fault) in
     let is = load_tells w d (x, Some e) c.in-Err.ensures.load in
-    let line = c.write-fault.ensures in
-    sheet_declined w d x c.args.out.now c.write-fault.new.out (record { day = c.load.new.day; screen = c.load.new.screen })
-    (record { read = 0; wrote = c.write-fault.result; goes_on = false }) e is refl line.bytes line.long line.few refl refl
+    let line = c.write_fault.ensures in
+    sheet_declined w d x c.args.out.now c.write_fault.new.out (record { day = c.load.new.day; screen = c.load.new.screen })
+    (record { read = 0; wrote = c.write_fault.result; goes_on = false }) e is refl line.bytes line.long line.few refl refl

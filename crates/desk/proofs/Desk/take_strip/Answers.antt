@@ -13,9 +13,9 @@ returns-in-Ok c =
     let w = c.args.window.now in
     let v = shown c.args.self.now.day in
     let t = settings_of c.args.self.now.screen in
-    let y = shown c.strip-onto.new.day in
+    let y = shown c.strip_onto.new.day in
     let told = c.in-Ok.ensures.load in
-    strip_accepted w (v, t) (y, t) c.args.out.now c.args.out.now (record { day = c.strip-onto.new.day; screen = c.args.self.now.screen })
+    strip_accepted w (v, t) (y, t) c.args.out.now c.args.out.now (record { day = c.strip_onto.new.day; screen = c.args.self.now.screen })
     (record { read = 34; wrote = 0; goes_on = true }) (strip_tells w v y t None told) refl refl refl refl (strip_long w v y told) refl
 
 pub returns-in-Err : goal.returns-in-Err
@@ -23,8 +23,8 @@ returns-in-Err c =
     let w = c.args.window.now in
     let v = shown c.args.self.now.day in
     let t = settings_of c.args.self.now.screen in
-    let y = shown c.strip-onto.new.day in
+    let y = shown c.strip_onto.new.day in
     let e : Refusal × ℕ = (refusal_in c.in-Err.fault, position_in c.in-Err.fault) in
-    let line = c.write-fault.ensures in
-    strip_declined w (v, t) (y, t) c.args.out.now c.write-fault.new.out (record { day = c.strip-onto.new.day; screen = c.args.self.now.screen })
-    (record { read = 0; wrote = c.write-fault.result; goes_on = false }) e (strip_tells w v y t (Some e) c.in-Err.ensures.load) refl line.bytes line.long line.few refl refl
+    let line = c.write_fault.ensures in
+    strip_declined w (v, t) (y, t) c.args.out.now c.write_fault.new.out (record { day = c.strip_onto.new.day; screen = c.args.self.now.screen })
+    (record { read = 0; wrote = c.write_fault.result; goes_on = false }) e (strip_tells w v y t (Some e) c.in-Err.ensures.load) refl line.bytes line.long line.few refl refl

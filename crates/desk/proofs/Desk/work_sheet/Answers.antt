@@ -7,8 +7,8 @@ pub returns : goal.returns
 returns c =
     record {
       answer = search rules;
-      worked = c.take-sheet.ensures;
+      worked = c.take_sheet.ensures;
       ahead = λ rest decided.
-          sheet_ahead c.args.window.now rest (desk_of c.args.self.now) c.args.out.now c.take-sheet.new.self c.take-sheet.new.out c.take-sheet.result c.take-sheet.ensures decided;
+          sheet_ahead c.args.window.now rest (desk_of c.args.self.now) c.args.out.now c.take_sheet.new.self c.take_sheet.new.out c.take_sheet.result c.take_sheet.ensures decided;
       declined = search rules;
     }

@@ -7,8 +7,8 @@ pub returns : goal.returns
 returns c =
     record {
       answer = search rules;
-      worked = c.take-strip.ensures;
+      worked = c.take_strip.ensures;
       ahead = λ rest enough.
-          strip_ahead c.args.window.now rest (desk_of c.args.self.now) c.args.out.now c.take-strip.new.self c.take-strip.new.out c.take-strip.result enough c.take-strip.ensures;
+          strip_ahead c.args.window.now rest (desk_of c.args.self.now) c.args.out.now c.take_strip.new.self c.take_strip.new.out c.take_strip.result enough c.take_strip.ensures;
       declined = search rules;
     }

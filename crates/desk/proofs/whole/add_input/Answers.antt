@@ -9,19 +9,19 @@ pub returns-then-not-step : goal.returns-then-not-step
 returns-then-not-step c =
     let s = c.args.input.now in
     let d = desk_of c.args.desk.now in
-    let worked = c.take-strip-step.ensures in
-    let front = front_written c.args.out.now (strip_text (strip_outcome s d)) c.take-strip-step.new.out c.take-strip-step.result.wrote worked.bytes worked.wrote in
-    input_ended (vec_items c.args.text.now) (vec_items c.extend-from-slice.new.self) d (desk_of c.take-strip-step.new.self) s
-    (c.in-ok-extend-from-slice.ensures.items ∙ ap (λ (t : List ℕ). vec_items c.args.text.now ++ t) front) worked.shows
-    (sym worked.on ∙ not-true c.take-strip-step.result.goes_on c.if-not-step.true)
+    let worked = c.take_strip-step.ensures in
+    let front = front_written c.args.out.now (strip_text (strip_outcome s d)) c.take_strip-step.new.out c.take_strip-step.result.wrote worked.bytes worked.wrote in
+    input_ended (vec_items c.args.text.now) (vec_items c.extend_from_slice.new.self) d (desk_of c.take_strip-step.new.self) s
+    (c.in-ok-extend_from_slice.ensures.items ∙ ap (λ (t : List ℕ). vec_items c.args.text.now ++ t) front) worked.shows
+    (sym worked.on ∙ not-true c.take_strip-step.result.goes_on c.if-not-step.true)
 
 pub returns : goal.returns
 returns c =
     let s = c.args.input.now in
     let d = desk_of c.args.desk.now in
-    let worked = c.take-strip-step.ensures in
-    let front = front_written c.args.out.now (strip_text (strip_outcome s d)) c.take-strip-step.new.out c.take-strip-step.result.wrote worked.bytes worked.wrote in
-    input_made c.add-sheets.result (vec_items c.args.text.now) (vec_items c.extend-from-slice.new.self) (vec_items c.add-sheets.new.text) c.take-strip-step.result.read
-    d (desk_of c.take-strip-step.new.self) (desk_of c.add-sheets.new.desk) s
-    (c.in-ok-extend-from-slice.ensures.items ∙ ap (λ (t : List ℕ). vec_items c.args.text.now ++ t) front) worked.shows worked.read
-    (sym worked.on ∙ not-false c.take-strip-step.result.goes_on c.if-not-step.false) c.add-sheets.ensures
+    let worked = c.take_strip-step.ensures in
+    let front = front_written c.args.out.now (strip_text (strip_outcome s d)) c.take_strip-step.new.out c.take_strip-step.result.wrote worked.bytes worked.wrote in
+    input_made c.add_sheets.result (vec_items c.args.text.now) (vec_items c.extend_from_slice.new.self) (vec_items c.add_sheets.new.text) c.take_strip-step.result.read
+    d (desk_of c.take_strip-step.new.self) (desk_of c.add_sheets.new.desk) s
+    (c.in-ok-extend_from_slice.ensures.items ∙ ap (λ (t : List ℕ). vec_items c.args.text.now ++ t) front) worked.shows worked.read
+    (sym worked.on ∙ not-false c.take_strip-step.result.goes_on c.if-not-step.false) c.add_sheets.ensures

@@ -6,10 +6,10 @@ use Rattle.desk.proofs.whole.add_sheet.Goals as goal
 
 pub returns : goal.returns
 returns c =
-    let worked = c.take-sheet-step.ensures in
+    let worked = c.take_sheet-step.ensures in
     let text = sheet_text (sheet_outcome c.args.sheets.now (desk_of c.args.desk.now)) in
-    let front = front_written c.args.out.now text c.take-sheet-step.new.out c.take-sheet-step.result.wrote worked.bytes worked.wrote in
+    let front = front_written c.args.out.now text c.take_sheet-step.new.out c.take_sheet-step.result.wrote worked.bytes worked.wrote in
     record {
       sheet = record { shows = worked.shows; read = worked.read; within = worked.within; on = worked.on };
-      text = c.in-ok-extend-from-slice.ensures.items ∙ ap (λ (t : List ℕ). vec_items c.args.text.now ++ t) front;
+      text = c.in-ok-extend_from_slice.ensures.items ∙ ap (λ (t : List ℕ). vec_items c.args.text.now ++ t) front;
     }

@@ -6,11 +6,11 @@ use Rattle.desk.specs.Steps.{desk_of}
 use Rattle.desk.proofs.Texts.{sheets_over, sheets_more, sheets_ended, sheets_all, some_left}
 use Rattle.desk.proofs.whole.add_sheets.Goals as goal
 
-pub returns-then-is-empty : goal.returns-then-is-empty
-returns-then-is-empty c =
+pub returns-then-is_empty : goal.returns-then-is_empty
+returns-then-is_empty c =
     let at = c.loop-turn in
     sheets_over (vec_items c.args.text.now ++ sheets_text 97 (desk_of c.args.desk.now) c.args.sheets.now) (vec_items at.text) (97 - at.turn) (desk_of at.desk) at.rest.now
-    at.invariant.0 (eqb-true (length at.rest.now) 0 (sym c.is-empty.ensures ∙ c.if-is-empty.true))
+    at.invariant.0 (eqb-true (length at.rest.now) 0 (sym c.is_empty.ensures ∙ c.if-is_empty.true))
 
 pub returns-then-not-step : goal.returns-then-not-step
 returns-then-not-step c =
@@ -18,9 +18,9 @@ returns-then-not-step c =
     let step = c.in-ok-step.step in
     let brought = c.in-ok-step.ensures in
     let more : 97 - at.turn ≡ suc (97 - (at.turn + 1)) = omega (arith, c.loop-turn-test.true) in
-    sheets_ended (vec_items c.args.text.now ++ sheets_text 97 (desk_of c.args.desk.now) c.args.sheets.now) (vec_items at.text) (vec_items c.add-sheet.new.text)
-    (97 - (at.turn + 1)) (97 - at.turn) (desk_of at.desk) (desk_of c.add-sheet.new.desk) at.rest.now
-    at.invariant.0 more (some_left (length at.rest.now) c.is-empty.result c.is-empty.ensures c.if-is-empty.false) brought.text brought.sheet.shows
+    sheets_ended (vec_items c.args.text.now ++ sheets_text 97 (desk_of c.args.desk.now) c.args.sheets.now) (vec_items at.text) (vec_items c.add_sheet.new.text)
+    (97 - (at.turn + 1)) (97 - at.turn) (desk_of at.desk) (desk_of c.add_sheet.new.desk) at.rest.now
+    at.invariant.0 more (some_left (length at.rest.now) c.is_empty.result c.is_empty.ensures c.if-is_empty.false) brought.text brought.sheet.shows
     (sym brought.sheet.on ∙ not-true step.goes_on c.if-not-step.true)
 
 pub loop-turn-preserved : goal.loop-turn-preserved
@@ -29,14 +29,14 @@ loop-turn-preserved c =
     let step = c.in-ok-step.step in
     let brought = c.in-ok-step.ensures in
     let more : 97 - at.turn ≡ suc (97 - (at.turn + 1)) = omega (arith, c.loop-turn-test.true) in
-    let after = vec_items c.add-sheet.new.text in
-    let x = desk_of c.add-sheet.new.desk in (
+    let after = vec_items c.add_sheet.new.text in
+    let x = desk_of c.add_sheet.new.desk in (
       sheets_more (vec_items c.args.text.now ++ sheets_text 97 (desk_of c.args.desk.now) c.args.sheets.now) (vec_items at.text) after
           (97 - (at.turn + 1)) (97 - at.turn) step.read (desk_of at.desk) x at.rest.now
-          at.invariant.0 more (some_left (length at.rest.now) c.is-empty.result c.is-empty.ensures c.if-is-empty.false) brought.text brought.sheet.shows brought.sheet.read
+          at.invariant.0 more (some_left (length at.rest.now) c.is_empty.result c.is_empty.ensures c.if-is_empty.false) brought.text brought.sheet.shows brought.sheet.read
           (sym brought.sheet.on ∙ not-false step.goes_on c.if-not-step.false)
           ∙ ap (λ (t : List ℕ). after ++ sheets_text (97 - (at.turn + 1)) x t) (sym (take_rest at.rest.now step.read)),
-      omega (arith, at.invariant.1, c.add-sheet.auto.out),
+      omega (arith, at.invariant.1, c.add_sheet.auto.out),
       omega (arith, c.loop-turn-test.true),
     )
 

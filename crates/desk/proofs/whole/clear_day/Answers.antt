@@ -17,10 +17,10 @@ returns-in-err-closed c =
 
 pub returns : goal.returns
 returns c =
-    let closed = c.add-closing-closed in
+    let closed = c.add_closing-closed in
     record {
       text = search rules;
-      accounts = ends_well (vec_items closed.new.text) (vec_items c.add-input-worked.new.text) (desk_of c.add-input-worked.new.desk).0
+      accounts = ends_well (vec_items closed.new.text) (vec_items c.add_input-worked.new.text) (desk_of c.add_input-worked.new.desk).0
           c.in-ok-closed.ensures.text closed.ensures.led closed.ensures.promise;
       enough = sheets_enough;
     }

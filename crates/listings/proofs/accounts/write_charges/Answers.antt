@@ -9,14 +9,14 @@ use Rattle.listings.proofs.accounts.write_charges.Goals as goal
 pub loop-grid-init : goal.loop-grid-init
 loop-grid-init c = listed_none c.args.buffer.now c.args.at (charge_line (accounts c.args.day.now)) 65
 
-pub write-charge-place-requires : goal.write-charge-place-requires
-write-charge-place-requires c = record { grid = c.loop-grid-test.true; room = omega (arith, c.requires, c.loop-grid.invariant.few, c.loop-grid.invariant.long, c.loop-grid-test.true) }
+pub write_charge-place-requires : goal.write_charge-place-requires
+write_charge-place-requires c = record { grid = c.loop-grid-test.true; room = omega (arith, c.requires, c.loop-grid.invariant.few, c.loop-grid.invariant.long, c.loop-grid-test.true) }
 
 pub loop-grid-preserved : goal.loop-grid-preserved
 loop-grid-preserved c =
     let i = c.loop-grid.grid in
-    listed_more c.args.buffer.now c.args.at (charge_line (accounts c.args.day.now)) 65 i c.loop-grid.buffer c.loop-grid.place c.write-charge-place.new.buffer c.write-charge-place.result
-    c.loop-grid.invariant (let m = (accounts c.args.day.now).charge i in above_long m 65 (line_of 67 (i ∷ m / 40 ∷ m % 40 ∷ [])) (three_long 67 i (m / 40) (m % 40))) (omega (arith, c.requires, c.loop-grid.invariant.few, c.loop-grid-test.true)) c.write-charge-place.ensures.end c.write-charge-place.ensures.bytes
+    listed_more c.args.buffer.now c.args.at (charge_line (accounts c.args.day.now)) 65 i c.loop-grid.buffer c.loop-grid.place c.write_charge-place.new.buffer c.write_charge-place.result
+    c.loop-grid.invariant (let m = (accounts c.args.day.now).charge i in above_long m 65 (line_of 67 (i ∷ m / 40 ∷ m % 40 ∷ [])) (three_long 67 i (m / 40) (m % 40))) (omega (arith, c.requires, c.loop-grid.invariant.few, c.loop-grid-test.true)) c.write_charge-place.ensures.end c.write_charge-place.ensures.bytes
 
 pub returns : goal.returns
 returns c =

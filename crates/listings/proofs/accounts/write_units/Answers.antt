@@ -9,14 +9,14 @@ use Rattle.listings.proofs.accounts.write_units.Goals as goal
 pub loop-unit-init : goal.loop-unit-init
 loop-unit-init c = listed_none c.args.buffer.now c.args.at (unit_line (accounts c.args.day.now)) 65
 
-pub write-unit-place-requires : goal.write-unit-place-requires
-write-unit-place-requires c = record { unit = c.loop-unit-test.true; room = omega (arith, c.requires, c.loop-unit.invariant.few, c.loop-unit.invariant.long, c.loop-unit-test.true) }
+pub write_unit-place-requires : goal.write_unit-place-requires
+write_unit-place-requires c = record { unit = c.loop-unit-test.true; room = omega (arith, c.requires, c.loop-unit.invariant.few, c.loop-unit.invariant.long, c.loop-unit-test.true) }
 
 pub loop-unit-preserved : goal.loop-unit-preserved
 loop-unit-preserved c =
     let i = c.loop-unit.unit in
-    listed_more c.args.buffer.now c.args.at (unit_line (accounts c.args.day.now)) 65 i c.loop-unit.buffer c.loop-unit.place c.write-unit-place.new.buffer c.write-unit-place.result
-    c.loop-unit.invariant (let m = (accounts c.args.day.now).unit i in above_long m 65 (line_of 85 (i ∷ m / 40 ∷ m % 40 ∷ [])) (three_long 85 i (m / 40) (m % 40))) (omega (arith, c.requires, c.loop-unit.invariant.few, c.loop-unit-test.true)) c.write-unit-place.ensures.end c.write-unit-place.ensures.bytes
+    listed_more c.args.buffer.now c.args.at (unit_line (accounts c.args.day.now)) 65 i c.loop-unit.buffer c.loop-unit.place c.write_unit-place.new.buffer c.write_unit-place.result
+    c.loop-unit.invariant (let m = (accounts c.args.day.now).unit i in above_long m 65 (line_of 85 (i ∷ m / 40 ∷ m % 40 ∷ [])) (three_long 85 i (m / 40) (m % 40))) (omega (arith, c.requires, c.loop-unit.invariant.few, c.loop-unit-test.true)) c.write_unit-place.ensures.end c.write_unit-place.ensures.bytes
 
 pub returns : goal.returns
 returns c =

@@ -9,14 +9,14 @@ use Rattle.listings.proofs.accounts.write_wires.Goals as goal
 pub loop-grid-init : goal.loop-grid-init
 loop-grid-init c = listed_none c.args.buffer.now c.args.at (wires_line (accounts c.args.day.now)) 65
 
-pub write-wire-place-requires : goal.write-wire-place-requires
-write-wire-place-requires c = record { grid = c.loop-grid-test.true; room = omega (arith, c.requires, c.loop-grid.invariant.few, c.loop-grid.invariant.long, c.loop-grid-test.true) }
+pub write_wire-place-requires : goal.write_wire-place-requires
+write_wire-place-requires c = record { grid = c.loop-grid-test.true; room = omega (arith, c.requires, c.loop-grid.invariant.few, c.loop-grid.invariant.long, c.loop-grid-test.true) }
 
 pub loop-grid-preserved : goal.loop-grid-preserved
 loop-grid-preserved c =
     let i = c.loop-grid.grid in
-    listed_more c.args.buffer.now c.args.at (wires_line (accounts c.args.day.now)) 65 i c.loop-grid.buffer c.loop-grid.place c.write-wire-place.new.buffer c.write-wire-place.result
-    c.loop-grid.invariant (let m = (accounts c.args.day.now).wires i in above_long m 65 (line_of 87 (i ∷ m / 40 ∷ m % 40 ∷ [])) (three_long 87 i (m / 40) (m % 40))) (omega (arith, c.requires, c.loop-grid.invariant.few, c.loop-grid-test.true)) c.write-wire-place.ensures.end c.write-wire-place.ensures.bytes
+    listed_more c.args.buffer.now c.args.at (wires_line (accounts c.args.day.now)) 65 i c.loop-grid.buffer c.loop-grid.place c.write_wire-place.new.buffer c.write_wire-place.result
+    c.loop-grid.invariant (let m = (accounts c.args.day.now).wires i in above_long m 65 (line_of 87 (i ∷ m / 40 ∷ m % 40 ∷ [])) (three_long 87 i (m / 40) (m % 40))) (omega (arith, c.requires, c.loop-grid.invariant.few, c.loop-grid-test.true)) c.write_wire-place.ensures.end c.write_wire-place.ensures.bytes
 
 pub returns : goal.returns
 returns c =

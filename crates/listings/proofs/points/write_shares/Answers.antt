@@ -8,14 +8,14 @@ use Rattle.listings.proofs.points.write_shares.Goals as goal
 pub loop-grid-init : goal.loop-grid-init
 loop-grid-init c = listed_none c.args.buffer.now c.args.at (λ (g : ℕ). share_text g (get_or c.args.got.now g 0)) 44
 
-pub write-share-place-requires : goal.write-share-place-requires
-write-share-place-requires c = omega (arith, c.requires, c.loop-grid.invariant.few, c.loop-grid.invariant.long, c.loop-grid-test.true)
+pub write_share-place-requires : goal.write_share-place-requires
+write_share-place-requires c = omega (arith, c.requires, c.loop-grid.invariant.few, c.loop-grid.invariant.long, c.loop-grid-test.true)
 
 pub loop-grid-preserved : goal.loop-grid-preserved
 loop-grid-preserved c =
     let i = c.loop-grid.grid in
-    listed_more c.args.buffer.now c.args.at (λ (g : ℕ). share_text g (get_or c.args.got.now g 0)) 44 i c.loop-grid.buffer c.loop-grid.place c.write-share-place.new.buffer c.write-share-place.result
-    c.loop-grid.invariant (let a = get_or c.args.got.now i 0 in above_long a 44 (line_of 66 (i ∷ a ∷ [])) (two_long 66 i a)) (omega (arith, c.requires, c.loop-grid.invariant.few, c.loop-grid-test.true)) c.write-share-place.ensures.end c.write-share-place.ensures.bytes
+    listed_more c.args.buffer.now c.args.at (λ (g : ℕ). share_text g (get_or c.args.got.now g 0)) 44 i c.loop-grid.buffer c.loop-grid.place c.write_share-place.new.buffer c.write_share-place.result
+    c.loop-grid.invariant (let a = get_or c.args.got.now i 0 in above_long a 44 (line_of 66 (i ∷ a ∷ [])) (two_long 66 i a)) (omega (arith, c.requires, c.loop-grid.invariant.few, c.loop-grid-test.true)) c.write_share-place.ensures.end c.write_share-place.ensures.bytes
 
 pub returns : goal.returns
 returns c =

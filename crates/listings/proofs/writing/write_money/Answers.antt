@@ -9,5 +9,5 @@ returns-then-fortieths-eq0 c =
     let line = line_of c.args.letter (c.args.who ∷ m / 40 ∷ m % 40 ∷ []) in
     record { end = none_end c.args.at m line (omega (arith, c.if-fen-eq0.true, c.if-fortieths-eq0.true)); bytes = none_bytes c.args.buffer.now c.args.at m line (omega (arith, c.if-fen-eq0.true, c.if-fortieths-eq0.true)) }
 
-pub put-line-requires : goal.put-line-requires
-put-line-requires c = omega (arith, c.requires.room, three_long c.args.letter c.from.result c.args.fen c.args.fortieths)
+pub put_line-requires : goal.put_line-requires
+put_line-requires c = omega (arith, c.requires.room, three_long c.args.letter c.from.result c.args.fen c.args.fortieths)

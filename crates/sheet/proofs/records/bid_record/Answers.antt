@@ -6,4 +6,4 @@ use Rattle.sheet.proofs.records.bid_record.Goals as goal
 pub returns : goal.returns
 returns c =
     let s = c.args.bytes.now in
-    (search rules, bid_by_fields s c.from.ensures c.from-le-bytes.ensures c.from-le-bytes-2.ensures, take_rest s 9)
+    (search rules, bid_by_fields s c.from.ensures c.from_le_bytes.ensures c.from_le_bytes-2.ensures, take_rest s 9)

@@ -8,12 +8,12 @@ use Rattle.day.proofs.register.Register.any_offered.Goals as goal
 pub loop-offer-init : goal.loop-offer-init
 loop-offer-init c = none_yet (λ u. is_some (offers_of c.args.self.now u))
 
-pub returns-then-is-some : goal.returns-then-is-some
-returns-then-is-some c =
+pub returns-then-is_some : goal.returns-then-is_some
+returns-then-is_some c =
     let offers = c.args.self.now.offers in
     let n = c.loop-offer.offer-index in
     let there = get_or_default offers n c.offer-item.result None (omega arith) in
-    let here = offered_some (get_or offers n None) ∙ ap is_some (sym there) ∙ sym c.if-is-some.ensures in
+    let here = offered_some (get_or offers n None) ∙ ap is_some (sym there) ∙ sym c.if-is_some.ensures in
     sym (any_below_from 64 (λ u. is_some (offers_of c.args.self.now u)) n c.loop-offer-test.true here)
 
 pub loop-offer-preserved : goal.loop-offer-preserved
@@ -21,5 +21,5 @@ loop-offer-preserved c =
     let offers = c.args.self.now.offers in
     let n = c.loop-offer.offer-index in
     let there = get_or_default offers n c.offer-item.result None (omega arith) in
-    let here = offered_some (get_or offers n None) ∙ ap is_some (sym there) ∙ sym c.if-is-some.ensures in
+    let here = offered_some (get_or offers n None) ∙ ap is_some (sym there) ∙ sym c.if-is_some.ensures in
     none_more n (λ u. is_some (offers_of c.args.self.now u)) c.loop-offer.invariant here

@@ -12,8 +12,8 @@ loop-place-init c k l = absurd (let no : ⊥ = omega arith in no)
 pub loop-place-preserved : goal.loop-place-preserved
 loop-place-preserved c =
     let register = c.args.self.now in
-    filled_more (λ k t. TierAt (entries_in (point_of register)) k t × (length register.offers ≡ 64)) c.loop-place.slot-items c.loop-place.place c.tier-at.result None
-    (omega arith) (c.tier-at.ensures.tier, c.tier-at.ensures.slots) c.loop-place.invariant
+    filled_more (λ k t. TierAt (entries_in (point_of register)) k t × (length register.offers ≡ 64)) c.loop-place.slot-items c.loop-place.place c.tier_at.result None
+    (omega arith) (c.tier_at.ensures.tier, c.tier_at.ensures.slots) c.loop-place.invariant
 
 pub returns : goal.returns
 returns c =
