@@ -78,16 +78,16 @@ impl BandScheme for OneBand {
 
 // The output at which an edge lies, in tenths, rounded down.
 pub fn edge<S: BandScheme>(nameplate: u16, edge: usize) -> u32
-    ensures { result ≡ edge_of scheme nameplate edge }
+    ensures { result ≡ edge_of S.scheme nameplate edge }
 {
     u32::from(nameplate) * u32::from(S::percent(edge)) / 100
 }
 
 // The capacity of a band, in tenths: the part of the headroom's stretch between its edges, 0 for a band that there is not.
 pub fn capacity<S: BandScheme>(figures: &UnitFigures, band: usize) -> u16
-    ensures value { result ≡ capacity_of scheme (figures_of figures.now) band }
-    ensures sum { AddsUp scheme (figures_of figures.now) }
-    ensures sum_from_zero { AddsUpFromZero scheme (figures_of figures.now) }
+    ensures value { result ≡ capacity_of S.scheme (figures_of figures.now) band }
+    ensures sum { AddsUp S.scheme (figures_of figures.now) }
+    ensures sum_from_zero { AddsUpFromZero S.scheme (figures_of figures.now) }
     ensures worked { WorkedCapacities }
 {
     if band >= S::band_count() {

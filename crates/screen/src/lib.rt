@@ -58,16 +58,16 @@ pub trait NodeLimits: Screen {
     // Sets the limit of a grid or corridor. Declined with 4 where there is none of this number and with 5 above 6,000,000.
     fn set_limit(&mut self, node: u32, limit: u32) -> Result<(), ScreenRefusal>
         ensures answer { answer_of result ≡ topmost (limit_rows (nodes self.old) node limit) }
-        ensures set { is_ok result ≡ true → settings self.new ≡ with_setting (settings self.old) (layers self.old) node limit }
-        ensures opened { is_ok result ≡ true → ontop self.new ≡ fresh self.new }
+        ensures set { is_ok result ≡ true → Self.settings self.new ≡ with_setting (Self.settings self.old) (layers self.old) node limit }
+        ensures opened { is_ok result ≡ true → Self.ontop self.new ≡ Self.fresh self.new }
         ensures shape { (nodes self.new ≡ nodes self.old) × (layers self.new ≡ layers self.old) }
         ensures declined { is_ok result ≡ false → self.new ≡ self.old };
 
     // Hangs a unit on a grid or corridor. Declined with 4 where there is no such unit, or else none such.
     fn hang(&mut self, unit: u32, node: u32) -> Result<(), ScreenRefusal>
         ensures answer { answer_of result ≡ topmost (hang_rows (nodes self.old) unit node) }
-        ensures set { is_ok result ≡ true → settings self.new ≡ with_setting (settings self.old) (layers self.old + 1) unit node }
-        ensures opened { is_ok result ≡ true → ontop self.new ≡ fresh self.new }
+        ensures set { is_ok result ≡ true → Self.settings self.new ≡ with_setting (Self.settings self.old) (layers self.old + 1) unit node }
+        ensures opened { is_ok result ≡ true → Self.ontop self.new ≡ Self.fresh self.new }
         ensures shape { (nodes self.new ≡ nodes self.old) × (layers self.new ≡ layers self.old) }
         ensures declined { is_ok result ≡ false → self.new ≡ self.old };
 }
@@ -76,10 +76,10 @@ pub trait NodeLimits: Screen {
 pub trait NodeParents: Screen + NodeLimits {
     // Sets the parent of a corridor. Declined with 4 where there is no such corridor or parent, and with 16 where the parent is not lower.
     fn set_parent(&mut self, node: u32, parent: u32) -> Result<(), ScreenRefusal>
-        ensures answer { answer_of result ≡ topmost (parent_rows (nodes self.old) node parent) }
-        ensures set { is_ok result ≡ true → settings self.new ≡ with_setting (settings self.old) (layers self.old + 2) node parent }
-        ensures opened { is_ok result ≡ true → ontop self.new ≡ fresh self.new }
-        ensures shape { (nodes self.new ≡ nodes self.old) × (layers self.new ≡ layers self.old) }
+        ensures answer { answer_of result ≡ topmost (parent_rows (Self.nodes self.old) node parent) }
+        ensures set { is_ok result ≡ true → Self.settings self.new ≡ with_setting (Self.settings self.old) (Self.layers self.old + 2) node parent }
+        ensures opened { is_ok result ≡ true → Self.ontop self.new ≡ Self.fresh self.new }
+        ensures shape { (Self.nodes self.new ≡ Self.nodes self.old) × (Self.layers self.new ≡ Self.layers self.old) }
         ensures declined { is_ok result ≡ false → self.new ≡ self.old };
 }
 

@@ -5,12 +5,12 @@ use Rattle.lines.proofs.Digits.{digits_read_back, digits_are_digits, no_leading_
 use Rattle.lines.proofs.Lines.{end_of_line, answered_true, declined_false, line_written, length_line_of, worked_line}
 use Rattle.lines.proofs.write_line.Goals as goal
 
-pub returns-in-default : goal.returns-in-default
-returns-in-default c =
+pub returns-in_default : goal.returns-in_default
+returns-in_default c =
     let b = c.args.buffer.now in
     let at = c.args.at in
     let line = line_of c.args.letter c.args.fields.now in
-    let answer = end_of_line None at (length b) c.args.letter c.args.fields.now c.in-default.ensures in
+    let answer = end_of_line None at (length b) c.args.letter c.args.fields.now c.in_default.ensures in
     record {
       end = answer;
       bytes = sym (cond-false (fits b at line) (written b at line) b (declined_false (fits b at line) (at + length line) answer));

@@ -4,7 +4,7 @@ use Rattle.outcome.specs.Entries.{any_below}
 use Rattle.clearing.specs.Sequence.{NextOf, buyers_of}
 use Rattle.clearing.proofs.NextBids.{next_bid_taken, next_bid_without, next_bid_lower}
 use Rattle.clearing.proofs.bids.least_bid.Goals as goal
-use Rattle.clearing.proofs.bids.least_bid.Goals.{in-Some+then-bid-gt0+then-from-bid, in-Some+else-bid-gt0, else-bid-gt0-via-then-bid-gt0+else-from-bid, else-bid-gt0-via-else-bid-gt0, in-default}
+use Rattle.clearing.proofs.bids.least_bid.Goals.{in-Some+then-bid-gt0+then-from-bid, in-Some+else-bid-gt0, else-bid-gt0-via-then-bid-gt0+else-from-bid, else-bid-gt0-via-else-bid-gt0, in_default}
 
 pub loop-slot-init : goal.loop-slot-init
 unfolding any_below
@@ -25,7 +25,7 @@ loop-slot-preserved c =
         | else-bid-gt0-via-else-bid-gt0 v ↦
             next_bid_without table n c.args.from c.loop-slot.next c.match-slot.next inv (Some w.in-Some.bid) (sym w.in-Some.is ∙ there) w.next-is v.if-bid-gt0.false
       ]
-      | in-default w ↦ next_bid_without table n c.args.from c.loop-slot.next c.match-slot.next inv None (sym w.in-default.is ∙ there) w.next-is (omega arith)
+      | in_default w ↦ next_bid_without table n c.args.from c.loop-slot.next c.match-slot.next inv None (sym w.in_default.is ∙ there) w.next-is (omega arith)
     ]
 
 pub returns : goal.returns

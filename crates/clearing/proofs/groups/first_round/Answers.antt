@@ -26,11 +26,11 @@ module _ (g : given.Over) (c : In-Some-next_share g) where
       c.loop-tier.taken c.in-Some-next_share.target c.in-Some.sharing.enough room inv.7 target_is in
       omega (arith, fits, c.in-Some.ensures.0, c.min.ensures)
 
-pub returns-in-default-next_share : goal.returns-in-default-next_share
-returns-in-default-next_share g c =
+pub returns-in_default-next_share : goal.returns-in_default-next_share
+returns-in_default-next_share g c =
     let inv = c.loop-tier.invariant in
     let more = left_more c.args.group.now c.loop-tier.tier-index c.tier-item.result c.loop-tier-test.true c.tier-item.is in
-    absurd (omega (arith, more, inv.5, inv.6, c.from.ensures, c.in-default-next_share.ensures.share))
+    absurd (omega (arith, more, inv.5, inv.6, c.from.ensures, c.in_default-next_share.ensures.share))
 
 pub take_up_to-taken-requires : goal.take_up_to-taken-requires
 take_up_to-taken-requires g c =

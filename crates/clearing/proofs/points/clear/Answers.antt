@@ -87,7 +87,7 @@ returns g c =
     let reached : Reached A e 200001 ts c.loop-bid.at c.loop-bid.cleared =
     subst (λ B. Reached B e 200001 ts c.loop-bid.at c.loop-bid.cleared) same
     (reached_between (g.S.Screen.fresh c.loop-bid.screen) e c.loop-bid.from 200001 ts c.loop-bid.at c.loop-bid.cleared inv.3
-    (λ k low high. c.in-default.ensures k low) inv.0) in
+    (λ k low high. c.in_default.ensures k low) inv.0) in
     let sound = segments_are_sound A e laws (entries_ranged entries) in
     record {
       declared = reached.declared;

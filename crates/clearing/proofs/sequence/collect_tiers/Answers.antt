@@ -2,7 +2,7 @@ use Rattle.std.proofs.Common.{◌≡◌, ◌<◌, length, Some, None, sym, refl,
 use Rattle.std.proofs.lemmas.List.{get_or_read}
 use Rattle.clearing.proofs.Collecting.{collected_written, collected_kept}
 use Rattle.clearing.proofs.sequence.collect_tiers.Goals as goal
-use Rattle.clearing.proofs.sequence.collect_tiers.Goals.{in-Some+then-tier-gt0, in-Some+else-tier-gt0, in-default}
+use Rattle.clearing.proofs.sequence.collect_tiers.Goals.{in-Some+then-tier-gt0, in-Some+else-tier-gt0, in_default}
 
 pub loop-place-preserved : goal.loop-place-preserved
 loop-place-preserved c =
@@ -25,9 +25,9 @@ loop-place-preserved c =
         long,
         collected_kept tiers n count ranked inv.2 (Some w.in-Some.tier) c.match-slot.count c.match-slot.ranked (sym w.in-Some.is ∙ there) w.count-is w.ranked-is w.if-tier-gt0.false,
       )
-      | in-default w ↦ (
+      | in_default w ↦ (
         omega (arith, inv.0, w.count-is),
         long,
-        collected_kept tiers n count ranked inv.2 None c.match-slot.count c.match-slot.ranked (sym w.in-default.is ∙ there) w.count-is w.ranked-is (omega arith),
+        collected_kept tiers n count ranked inv.2 None c.match-slot.count c.match-slot.ranked (sym w.in_default.is ∙ there) w.count-is w.ranked-is (omega arith),
       )
     ]

@@ -8,7 +8,7 @@ use Rattle.day.specs.declared.ledger.Ledger.{Ledger}
 use Rattle.day.proofs.SegmentRows.{whole_rows}
 use Rattle.day.proofs.Postings.{Paid, paid_none, paid_nothing, paid_all, unoffered_none, offered_covered, offered_fits, offered_paid}
 use Rattle.day.proofs.settlement.pay_sellers.Goals as goal
-use Rattle.day.proofs.settlement.pay_sellers.Goals.{in-Some, in-default}
+use Rattle.day.proofs.settlement.pay_sellers.Goals.{in-Some, in_default}
 
 pub pay_seller-requires : goal.pay_seller-requires
 pay_seller-requires c =
@@ -58,8 +58,8 @@ loop-unit-preserved c =
                 told.units told.wires told.branch,
             told.charges ∙ c.loop-unit.invariant.1,
           )
-      | in-default w ↦
-          let absent = sym c.offer.ensures ∙ w.in-default.is in
+      | in_default w ↦
+          let absent = sym c.offer.ensures ∙ w.in_default.is in
           subst done (sym w.ledger-is) (
             paid_nothing v d u units wires branch c.loop-unit.invariant.0 (unoffered_none r l d c.requires.postable u c.loop-unit-test.true absent),
             c.loop-unit.invariant.1,

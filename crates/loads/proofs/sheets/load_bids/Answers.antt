@@ -17,10 +17,10 @@ returns-in-err-load_bid c =
       behind = tt;
     })
 
-pub returns-in-default : goal.returns-in-default
-returns-in-default c =
+pub returns-in_default : goal.returns-in_default
+returns-in_default c =
     let at = c.loop-position in
-    absurd (too_short c.args.bytes.now at.rest.now (9 * (at.position - c.args.first)) 9 at.invariant.1 (omega (arith, c.requires.1, at.invariant.2, c.loop-position-test.true)) c.in-default.ensures)
+    absurd (too_short c.args.bytes.now at.rest.now (9 * (at.position - c.args.first)) 9 at.invariant.1 (omega (arith, c.requires.1, at.invariant.2, c.loop-position-test.true)) c.in_default.ensures)
 
 pub loop-position-preserved : goal.loop-position-preserved
 loop-position-preserved c =

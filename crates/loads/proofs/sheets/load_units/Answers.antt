@@ -19,10 +19,10 @@ returns-in-err-load_unit g c =
       opened = λ clear. c.load_unit.ensures.opened (at.invariant.4 clear);
     })
 
-pub returns-in-default : goal.returns-in-default
-returns-in-default g c =
+pub returns-in_default : goal.returns-in_default
+returns-in_default g c =
     let at = c.loop-position in
-    absurd (too_short c.args.bytes.now at.rest.now (19 * at.position) 19 at.invariant.1 (omega (arith, c.requires, at.invariant.5, c.loop-position-test.true)) c.in-default.ensures)
+    absurd (too_short c.args.bytes.now at.rest.now (19 * at.position) 19 at.invariant.1 (omega (arith, c.requires, at.invariant.5, c.loop-position-test.true)) c.in_default.ensures)
 
 pub loop-position-preserved : goal.loop-position-preserved
 loop-position-preserved g c =

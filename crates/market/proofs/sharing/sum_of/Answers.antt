@@ -2,12 +2,12 @@ use Rattle.std.proofs.Common.{◌≡◌, ◌+◌, get_or, sum, sym, ap, ◌∙�
 use Rattle.std.proofs.lemmas.List.Sums.{sum_by_more, sum_by-take-le}
 use Rattle.market.proofs.sharing.sum_of.Goals as goal
 
-pub returns-in-default : goal.returns-in-default
-returns-in-default c =
+pub returns-in_default : goal.returns-in_default
+returns-in_default c =
     let xs = c.args.claims.now in
     let i = c.loop-claim.claim-index in
     let more = sum_by_more (λ x. x) xs i 0 c.loop-claim-test.true in
-    omega (arith, c.in-default.ensures, more, sum_by-take-le (λ x. x) xs (i + 1), c.loop-claim.invariant)
+    omega (arith, c.in_default.ensures, more, sum_by-take-le (λ x. x) xs (i + 1), c.loop-claim.invariant)
 
 pub loop-claim-preserved : goal.loop-claim-preserved
 loop-claim-preserved c =

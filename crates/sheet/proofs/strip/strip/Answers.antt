@@ -2,10 +2,10 @@ use Rattle.std.proofs.Common.{◌≡◌, ℕ, ◌*◌, ◌<◌, ◌≤◌, lengt
 use Rattle.sheet.proofs.Tariffs.{one_more, left_behind, left_length, all_read}
 use Rattle.sheet.proofs.strip.strip.Goals as goal
 
-pub returns-in-default : goal.returns-in-default
-returns-in-default c =
+pub returns-in_default : goal.returns-in_default
+returns-in_default c =
     let s = c.args.bytes.now in
-    let short : length s < 34 = omega (arith, left_length s c.loop-grid.rest.now c.loop-grid.grid c.loop-grid.invariant.2, c.in-default.ensures) in
+    let short : length s < 34 = omega (arith, left_length s c.loop-grid.rest.now c.loop-grid.grid c.loop-grid.invariant.2, c.in_default.ensures) in
     search rules
 
 pub loop-grid-preserved : goal.loop-grid-preserved

@@ -4,7 +4,7 @@ use Rattle.outcome.proofs.Bids.{any_below_from}
 use Rattle.day.specs.Shown.{bids_of, asking}
 use Rattle.day.proofs.SeenSoFar.{none_yet, none_more, bids_price, bids_its_price, bids_another_price, bids_without_need}
 use Rattle.day.proofs.register.Register.any_bids.Goals as goal
-use Rattle.day.proofs.register.Register.any_bids.Goals.{in-Some+else-bid-gt0, else-bid-gt0-via-then-bid-gt0+else-bid-price, else-bid-gt0-via-else-bid-gt0, in-default}
+use Rattle.day.proofs.register.Register.any_bids.Goals.{in-Some+else-bid-gt0, else-bid-gt0-via-then-bid-gt0+else-bid-price, else-bid-gt0-via-else-bid-gt0, in_default}
 
 pub loop-slot-init : goal.loop-slot-init
 loop-slot-init c = none_yet (λ g. bids_price (bids_of c.args.self.now g) c.args.price)
@@ -27,6 +27,6 @@ loop-slot-preserved c =
         | else-bid-gt0-via-then-bid-gt0+else-bid-price v ↦ bids_another_price w.in-Some.bid price v.if-bid-price.false
         | else-bid-gt0-via-else-bid-gt0 v ↦ bids_without_need w.in-Some.bid price (omega (arith, v.if-bid-gt0.false))
       ]
-      | in-default w ↦ ap (λ b. bids_price (asking b) price) (read ∙ w.in-default.is)
+      | in_default w ↦ ap (λ b. bids_price (asking b) price) (read ∙ w.in_default.is)
     ] in
     none_more n (λ g. bids_price (bids_of c.args.self.now g) price) c.loop-slot.invariant here

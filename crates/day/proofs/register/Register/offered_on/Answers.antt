@@ -5,7 +5,7 @@ use Rattle.book.specs.Tables.{offered_on}
 use Rattle.day.specs.Shown.{offers_of, offered}
 use Rattle.day.proofs.SeenSoFar.{none_yet, none_more, on_its_grid, on_another_grid}
 use Rattle.day.proofs.register.Register.offered_on.Goals as goal
-use Rattle.day.proofs.register.Register.offered_on.Goals.{in-Some+else-offer-grid, in-default}
+use Rattle.day.proofs.register.Register.offered_on.Goals.{in-Some+else-offer-grid, in_default}
 
 pub loop-slot-init : goal.loop-slot-init
 loop-slot-init c = none_yet (λ u. offered_on (offers_of c.args.self.now u) c.args.grid.number)
@@ -25,6 +25,6 @@ loop-slot-preserved c =
     let read = sym (get_or_default c.args.self.now.offers n c.slot-item.result None (omega arith)) in
     let here : offered_on (offers_of c.args.self.now n) grid ≡ false = elim c.match-slot.branch [
       | in-Some+else-offer-grid w ↦ ap (λ o. offered_on (offered o) grid) (read ∙ w.in-Some.is) ∙ on_another_grid w.in-Some.offer grid w.if-offer-grid.false
-      | in-default w ↦ ap (λ o. offered_on (offered o) grid) (read ∙ w.in-default.is)
+      | in_default w ↦ ap (λ o. offered_on (offered o) grid) (read ∙ w.in_default.is)
     ] in
     none_more n (λ u. offered_on (offers_of c.args.self.now u) grid) c.loop-slot.invariant here
