@@ -25,13 +25,13 @@ fn group_capacity(group: &[Tier]) -> u32
 // Takes at a place as much as the quantity and the room there allow, and says how much.
 fn take_up_to<S: Screen>(place: Place, quantity: u32, screen: &mut S, awards: &mut [u32]) -> u32
     requires long { length awards.old ≡ 256 }
-    requires open { ontop screen.old ≡ above (award_of awards.old) (fresh screen.old) }
+    requires open { S.ontop screen.old ≡ above (award_of awards.old) (fresh screen.old) }
     requires fits { total (award_of awards.old) + quantity < 2 ^ 32 }
-    ensures taken { result ≡ min quantity (room_over (fresh screen.old) (award_of awards.old) place.number) }
+    ensures taken { result ≡ min quantity (room_over (S.fresh screen.old) (award_of awards.old) place.number) }
     ensures award { award_of awards.new ≡ raise (award_of awards.old) place.number result }
     ensures more { total (award_of awards.new) ≡ total (award_of awards.old) + result }
-    ensures open { ontop screen.new ≡ above (award_of awards.new) (fresh screen.old) }
-    ensures set { settings screen.new ≡ settings screen.old }
+    ensures open { S.ontop screen.new ≡ above (award_of awards.new) (fresh screen.old) }
+    ensures set { S.settings screen.new ≡ S.settings screen.old }
     ensures long { length awards.new ≡ 256 }
 {
     let at = u32::from(place.number);
@@ -48,12 +48,12 @@ fn take_up_to<S: Screen>(place: Place, quantity: u32, screen: &mut S, awards: &m
 fn first_round<S: Screen>(group: &[Tier], want: u32, screen: &mut S, awards: &mut [u32]) -> u32
     requires few { length group.now ≤ 256 }
     requires long { length awards.old ≡ 256 }
-    requires open { ontop screen.old ≡ above (award_of awards.old) (fresh screen.old) }
+    requires open { S.ontop screen.old ≡ above (award_of awards.old) (fresh screen.old) }
     requires fits { total (award_of awards.old) + want < 2 ^ 32 }
-    ensures award { award_of awards.new ≡ first_round (fresh screen.old) (places_of group.now) (targets want (capacities_of group.now)) (award_of awards.old) }
+    ensures award { award_of awards.new ≡ first_round (S.fresh screen.old) (places_of group.now) (targets want (capacities_of group.now)) (award_of awards.old) }
     ensures taken { (result + total (award_of awards.old) ≡ total (award_of awards.new)) × (result ≤ want) }
-    ensures open { ontop screen.new ≡ above (award_of awards.new) (fresh screen.old) }
-    ensures set { settings screen.new ≡ settings screen.old }
+    ensures open { S.ontop screen.new ≡ above (award_of awards.new) (fresh screen.old) }
+    ensures set { S.settings screen.new ≡ S.settings screen.old }
     ensures long { length awards.new ≡ 256 }
 {
     let capacity = group_capacity(group);
@@ -73,12 +73,12 @@ fn first_round<S: Screen>(group: &[Tier], want: u32, screen: &mut S, awards: &mu
 // The second round: in order each tier takes as much more as the want, its capacity and the room allow. What the round took.
 fn second_round<S: Screen>(group: &[Tier], want: u32, screen: &mut S, awards: &mut [u32]) -> u32
     requires long { length awards.old ≡ 256 }
-    requires open { ontop screen.old ≡ above (award_of awards.old) (fresh screen.old) }
+    requires open { S.ontop screen.old ≡ above (award_of awards.old) (fresh screen.old) }
     requires fits { total (award_of awards.old) + want < 2 ^ 32 }
-    ensures award { award_of awards.new ≡ second_round (fresh screen.old) (total (award_of awards.old) + want) (places_of group.now) (capacities_of group.now) (award_of awards.old) }
+    ensures award { award_of awards.new ≡ second_round (S.fresh screen.old) (total (award_of awards.old) + want) (places_of group.now) (capacities_of group.now) (award_of awards.old) }
     ensures taken { (result + total (award_of awards.old) ≡ total (award_of awards.new)) × (result ≤ want) }
-    ensures open { ontop screen.new ≡ above (award_of awards.new) (fresh screen.old) }
-    ensures set { settings screen.new ≡ settings screen.old }
+    ensures open { S.ontop screen.new ≡ above (award_of awards.new) (fresh screen.old) }
+    ensures set { S.settings screen.new ≡ S.settings screen.old }
     ensures long { length awards.new ≡ 256 }
 {
     let mut left = want;
@@ -94,12 +94,12 @@ fn second_round<S: Screen>(group: &[Tier], want: u32, screen: &mut S, awards: &m
 pub fn work_group<S: Screen>(group: &[Tier], want: u32, screen: &mut S, awards: &mut [u32]) -> u32
     requires few { length group.now ≤ 256 }
     requires long { length awards.old ≡ 256 }
-    requires open { ontop screen.old ≡ above (award_of awards.old) (fresh screen.old) }
+    requires open { S.ontop screen.old ≡ above (award_of awards.old) (fresh screen.old) }
     requires fits { total (award_of awards.old) + want < 2 ^ 32 }
-    ensures award { award_of awards.new ≡ work_tiers (fresh screen.old) (total (award_of awards.old) + want) (places_of group.now) (capacities_of group.now) (award_of awards.old) }
+    ensures award { award_of awards.new ≡ work_tiers (S.fresh screen.old) (total (award_of awards.old) + want) (places_of group.now) (capacities_of group.now) (award_of awards.old) }
     ensures taken { (result + total (award_of awards.old) ≡ total (award_of awards.new)) × (result ≤ want) }
-    ensures open { ontop screen.new ≡ above (award_of awards.new) (fresh screen.old) }
-    ensures set { settings screen.new ≡ settings screen.old }
+    ensures open { S.ontop screen.new ≡ above (award_of awards.new) (fresh screen.old) }
+    ensures set { S.settings screen.new ≡ S.settings screen.old }
     ensures long { length awards.new ≡ 256 }
 {
     let first = first_round(group, want, screen, awards);

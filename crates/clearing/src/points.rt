@@ -86,12 +86,12 @@ fn work_segment<S: Screen>(
     requires few { (at ≤ length ranked.now) × (length ranked.now ≤ place_count) }
     requires bidden { some_bids (entries_of entries.now) bid ≡ true }
     requires sequence { Sequence (entries_of entries.now) ranked.now }
-    requires reached { Reached (fresh screen.old) (entries_of entries.now) bid ranked.now at cleared.old }
-    requires open { ontop screen.old ≡ above (award_of cleared.old.awards) (fresh screen.old) }
+    requires reached { Reached (S.fresh screen.old) (entries_of entries.now) bid ranked.now at cleared.old }
+    requires open { S.ontop screen.old ≡ above (award_of cleared.old.awards) (fresh screen.old) }
     ensures within { result ≤ length ranked.now }
-    ensures reached { Reached (fresh screen.old) (entries_of entries.now) (suc bid) ranked.now result cleared.new }
-    ensures open { ontop screen.new ≡ above (award_of cleared.new.awards) (fresh screen.old) }
-    ensures set { settings screen.new ≡ settings screen.old }
+    ensures reached { Reached (S.fresh screen.old) (entries_of entries.now) (suc bid) ranked.now result cleared.new }
+    ensures open { S.ontop screen.new ≡ above (award_of cleared.new.awards) (fresh screen.old) }
+    ensures set { S.settings screen.new ≡ S.settings screen.old }
 {
     let mut wants: [u32; 16] = [0; 16];
     let want = open_needs(&entries.bids, &cleared.got, bid, &mut wants);
@@ -110,12 +110,12 @@ fn work_segment<S: Screen>(
 
 // Clears a point: resets the screen, works every segment through room and take, and leaves the awards taken in the screen.
 pub fn clear<S: Screen>(entries: &PointEntries, screen: &mut S) -> Cleared
-    ensures declared { Declares (entries_of entries.now) (suc max_price) (outcome (fresh screen.old) (entries_of entries.now)) result }
-    ensures opened { ontop screen.new ≡ above (outcome (fresh screen.old) (entries_of entries.now)).award (fresh screen.old) }
-    ensures set { settings screen.new ≡ settings screen.old }
-    ensures worthy { Worthy (fresh screen.old) (entries_of entries.now) (outcome (fresh screen.old) (entries_of entries.now)) }
-    ensures segments { (b : ℕ) → some_bids (entries_of entries.now) b ≡ true → SoundSegment (entries_of entries.now) (outcome (fresh screen.old) (entries_of entries.now)) b }
-    ensures sums { SoundSums (entries_of entries.now) (outcome (fresh screen.old) (entries_of entries.now)) }
+    ensures declared { Declares (entries_of entries.now) (suc max_price) (outcome (S.fresh screen.old) (entries_of entries.now)) result }
+    ensures opened { S.ontop screen.new ≡ above (outcome (fresh screen.old) (entries_of entries.now)).award (fresh screen.old) }
+    ensures set { S.settings screen.new ≡ S.settings screen.old }
+    ensures worthy { Worthy (S.fresh screen.old) (entries_of entries.now) (outcome (S.fresh screen.old) (entries_of entries.now)) }
+    ensures segments { (b : ℕ) → some_bids (entries_of entries.now) b ≡ true → SoundSegment (entries_of entries.now) (outcome (S.fresh screen.old) (entries_of entries.now)) b }
+    ensures sums { SoundSums (entries_of entries.now) (outcome (S.fresh screen.old) (entries_of entries.now)) }
     ensures worked { WorkedTies }
 {
     screen.reset();

@@ -15,8 +15,8 @@ pub trait PlaceCaps: Screen {
     // Sets the cap of a place and forgets what was taken. Declined with 4 where there is no such place and with 5 above 20,000.
     fn set_cap(&mut self, place: u32, quantity: u32) -> Result<(), ScreenRefusal>
         ensures answer { answer_of result ≡ topmost (cap_rows place quantity) }
-        ensures set { is_ok result ≡ true → settings self.new ≡ with_setting (settings self.old) (above self.old) place quantity }
-        ensures opened { is_ok result ≡ true → ontop self.new ≡ fresh self.new }
+        ensures set { is_ok result ≡ true → Self.settings self.new ≡ with_setting (Self.settings self.old) (above self.old) place quantity }
+        ensures opened { is_ok result ≡ true → Self.ontop self.new ≡ Self.fresh self.new }
         ensures shape { above self.new ≡ above self.old }
         ensures declined { is_ok result ≡ false → self.new ≡ self.old };
 }
@@ -29,8 +29,8 @@ pub trait TotalCeiling: Screen {
     // Sets the ceiling and forgets what was taken. Declined with 5 above 6,000,000.
     fn set_ceiling(&mut self, limit: u32) -> Result<(), ScreenRefusal>
         ensures answer { answer_of result ≡ topmost (ceiling_rows limit) }
-        ensures set { is_ok result ≡ true → settings self.new ≡ with_setting (settings self.old) (above self.old) 0 limit }
-        ensures opened { is_ok result ≡ true → ontop self.new ≡ fresh self.new }
+        ensures set { is_ok result ≡ true → Self.settings self.new ≡ with_setting (Self.settings self.old) (above self.old) 0 limit }
+        ensures opened { is_ok result ≡ true → Self.ontop self.new ≡ Self.fresh self.new }
         ensures shape { above self.new ≡ above self.old }
         ensures declined { is_ok result ≡ false → self.new ≡ self.old };
 }

@@ -4,9 +4,9 @@ use Rattle.day.specs.Day.{shown}
 use Rattle.runs.proofs.Running.{running_none, running_more, running_all}
 use Rattle.runs.proofs.run.Goals as goal
 
-pub returns-in-err-steps : goal.returns-in-err-steps
-returns-in-err-steps g c =
-    let p = err_from_is_err_and c.from-residual.result c.from-residual.ensures.1 in
+pub returns-in_err-steps : goal.returns-in_err-steps
+returns-in_err-steps g c =
+    let p = err_from_is_err_and c.from_residual.result c.from_residual.ensures.1 in
     record {
       promise = (λ s. g.met.S.Screen.fresh_lawful s, rw p.1 (search rules));
       screens = rw p.1 (search rules);
@@ -15,8 +15,8 @@ returns-in-err-steps g c =
 
 pub loop-k-init : goal.loop-k-init
 loop-k-init g c =
-    let room = c.in-ok-steps.ensures in (
-      running_none g.S.Screen (λ s. g.met.S.Screen.fresh_lawful s) c.args.calls.now (vec_items c.in-ok-steps.steps) (shown c.start-day.result)
+    let room = c.in_ok-steps.ensures in (
+      running_none g.S.Screen (λ s. g.met.S.Screen.fresh_lawful s) c.args.calls.now (vec_items c.in_ok-steps.steps) (shown c.start-day.result)
           room.items c.start-day.ensures,
       room.capacity,
     )

@@ -16,13 +16,13 @@ use Rattle.day.proofs.ClearedDay as cleared-day
 use Rattle.day.proofs.Following.{led_on, accepted_turn, declined_turn}
 use Rattle.day.proofs.RunningDay.clear.Goals as goal
 
-pub returns-in-err-admit : goal.returns-in-err-admit
-returns-in-err-admit g c =
+pub returns-in_err-admit : goal.returns-in_err-admit
+returns-in_err-admit g c =
     let d = c.args.self.now in
     let s = c.args.screen.now in
     let laws = g.met.S.Screen.fresh_lawful s in
-    let p = err_from_is_err_and c.from-residual.result c.from-residual.ensures.1 in
-    let told = c.in-err-admit.ensures in
+    let p = err_from_is_err_and c.from_residual.result c.from_residual.ensures.1 in
+    let told = c.in_err-admit.ensures in
     let row = market_refusal p.0 in
     let declined : refusal (shown d) (clear (g.S.Screen.fresh s) laws) ≡ Some row = sym (rw (← p.2) at told) in
     record {
@@ -33,8 +33,8 @@ returns-in-err-admit g c =
       declined = search rules;
     }
 
-pub invariant-of-self : goal.invariant-of-self
-invariant-of-self g c =
+pub invariant_of-self : goal.invariant_of-self
+invariant_of-self g c =
     let d = c.args.self.now in
     let s = c.args.screen.now in
     let A = g.S.Screen.fresh s in
@@ -46,7 +46,7 @@ invariant-of-self g c =
     let after = shown_of d.posted d.entered d.register (Cleared tables) d.ledger in
     let is = cleared-day.declaration_is A laws d.register e tables ranged c.entries-entries.ensures told.sums told.declared in
     let stored = cleared-day.stored A laws d.register e tables ranged c.entries-entries.ensures told.sums told.declared in
-    let accepted = accepted_turn (shown d) (clear A laws) (sym c.in-ok-admit.ensures) in
+    let accepted = accepted_turn (shown d) (clear A laws) (sym c.in_ok-admit.ensures) in
     let shows : after ≡ turn (clear A laws) (shown d) = ap (λ x. with_stage (cleared x) (shown d)) is ∙ sym accepted in
     (led_on (shown d) after d.state (Cleared tables) (clear A laws) d.followed shows (A, laws, stored), tt)
 
@@ -62,10 +62,10 @@ returns g c =
     let tables = c.clear.result in
     let same = c.entries-entries.ensures in
     let is = cleared-day.declaration_is A laws d.register e tables ranged same told.sums told.declared in
-    let accepted = accepted_turn (shown d) (clear A laws) (sym c.in-ok-admit.ensures) in
+    let accepted = accepted_turn (shown d) (clear A laws) (sym c.in_ok-admit.ensures) in
     let award = ap (λ x. x.award) (tables_declare A e tables ranged told.sums told.declared) in
     record {
-      day = (laws, c.in-ok-admit.ensures, ap (λ x. with_stage (cleared x) (shown d)) is ∙ sym accepted);
+      day = (laws, c.in_ok-admit.ensures, ap (λ x. with_stage (cleared x) (shown d)) is ∙ sym accepted);
       declared = λ ok. (laws, cleared-day.declared_well A laws d.register e tables ranged same told.sums told.declared d.posted d.entered (Cleared tables) d.ledger);
       taken = λ ok. told.opened ∙ ap (λ x. above x A) (sym award);
       set = (told.set, g.met.S.Screen.decided _ _ told.set);

@@ -7,8 +7,8 @@ use Rattle.book.proofs.PostSums.{history_sums}
 use Rattle.book.proofs.Promised.{promise, kept_throughout}
 use Rattle.day.proofs.RunningDay.close.Goals as goal
 
-pub invariant-of-result : goal.invariant-of-result
-invariant-of-result c = (∥∥₁_map c.args.self.followed (λ x. (x.0, ap (λ v. v.money) x.1)), tt)
+pub invariant_of-result : goal.invariant_of-result
+invariant_of-result c = (∥∥₁_map c.args.self.followed (λ x. (x.0, ap (λ v. v.money) x.1)), tt)
 
 pub returns : goal.returns
 returns c = record {

@@ -17,17 +17,17 @@ post-requires c =
     let followed = subst (λ s. ∥ Followed (shown_of d.posted d.entered d.register s d.ledger) s ∥₁) c.in-Cleared.is d.followed in
     record {
       read = reads_off d.posted d.entered d.register tables d.ledger followed;
-      postable = can_post d.posted d.entered d.register tables d.ledger followed (gate_left d.posted (is_cleared (stage_of d.state)) _ 0 c.in-ok-admit.ensures);
+      postable = can_post d.posted d.entered d.register tables d.ledger followed (gate_left d.posted (is_cleared (stage_of d.state)) _ 0 c.in_ok-admit.ensures);
     }
 
-pub invariant-of-self : goal.invariant-of-self
-invariant-of-self c =
+pub invariant_of-self : goal.invariant_of-self
+invariant_of-self c =
     let d = c.args.self.now in
     let told = c.remove_entries.ensures in
     let after = shown_of (d.posted + 1) d.entered c.remove_entries.new.self Entering c.post.new.ledger in
     let shows : after ≡ turn post (shown d) =
     post_turn d.posted d.entered d.register d.state c.in-Cleared.cleared d.ledger c.remove_entries.new.self c.post.new.ledger
-    c.in-Cleared.is c.in-ok-admit.ensures told.others told.offers told.bids c.post.ensures in
+    c.in-Cleared.is c.in_ok-admit.ensures told.others told.offers told.bids c.post.ensures in
     (led_on (shown d) after d.state Entering post d.followed shows tt, tt)
 
 pub returns : goal.returns
@@ -35,7 +35,7 @@ returns c =
     let d = c.args.self.now in
     let told = c.remove_entries.ensures in
     record {
-      answer = c.in-ok-admit.ensures;
+      answer = c.in_ok-admit.ensures;
       day = post_turn d.posted d.entered d.register d.state c.in-Cleared.cleared d.ledger c.remove_entries.new.self c.post.new.ledger
-          c.in-Cleared.is c.in-ok-admit.ensures told.others told.offers told.bids c.post.ensures;
+          c.in-Cleared.is c.in_ok-admit.ensures told.others told.offers told.bids c.post.ensures;
     }

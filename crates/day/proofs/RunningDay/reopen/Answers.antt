@@ -5,7 +5,7 @@ use Rattle.day.specs.declared.state.PointState.TheVariants.{Entering}
 use Rattle.day.proofs.Following.{led_on, accepted_turn}
 use Rattle.day.proofs.RunningDay.reopen.Goals as goal
 
-pub invariant-of-self : goal.invariant-of-self
-invariant-of-self c =
+pub invariant_of-self : goal.invariant_of-self
+invariant_of-self c =
     let d = c.args.self.now in
-    (led_on (shown d) _ d.state Entering reopen d.followed (sym (accepted_turn (shown d) reopen (sym c.in-ok-admit.ensures))) tt, tt)
+    (led_on (shown d) _ d.state Entering reopen d.followed (sym (accepted_turn (shown d) reopen (sym c.in_ok-admit.ensures))) tt, tt)

@@ -4,7 +4,7 @@ use Rattle.day.specs.Shown.{shown_of}
 use Rattle.day.specs.declared.state.PointState.TheVariants.{Entering}
 use Rattle.day.proofs.RunningDay.start.Goals as goal
 
-pub invariant-of-result : goal.invariant-of-result
-invariant-of-result c =
+pub invariant_of-result : goal.invariant_of-result
+invariant_of-result c =
     let shows : shown_of 0 0 c.empty.result Entering c.empty-2.result ≡ empty_day = search rules in
     (∣ ([], shows, tt) ∣₁, tt)

@@ -6,10 +6,10 @@ use Rattle.day.specs.Day.{shown}
 use Rattle.day.proofs.Following.{led_on, entry_stores}
 use Rattle.day.proofs.RunningDay.withdraw.Goals as goal
 
-pub invariant-of-self : goal.invariant-of-self
-invariant-of-self c =
+pub invariant_of-self : goal.invariant_of-self
+invariant_of-self c =
     let d = c.args.self.now in
     let call = withdraw c.args.unit in
     let after = shown_of d.posted (d.entered + 1) c.remove_offer.new.self d.state d.ledger in
     let shows : after ≡ turn call (shown d) = search rules in
-    (led_on (shown d) after d.state d.state call d.followed shows (entry_stores after d.posted d.state c.args.unit c.in-ok-admit.ensures), tt)
+    (led_on (shown d) after d.state d.state call d.followed shows (entry_stores after d.posted d.state c.args.unit c.in_ok-admit.ensures), tt)

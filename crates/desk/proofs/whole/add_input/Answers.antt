@@ -12,7 +12,7 @@ returns-then-not-step c =
     let worked = c.take_strip-step.ensures in
     let front = front_written c.args.out.now (strip_text (strip_outcome s d)) c.take_strip-step.new.out c.take_strip-step.result.wrote worked.bytes worked.wrote in
     input_ended (vec_items c.args.text.now) (vec_items c.extend_from_slice.new.self) d (desk_of c.take_strip-step.new.self) s
-    (c.in-ok-extend_from_slice.ensures.items ∙ ap (λ (t : List ℕ). vec_items c.args.text.now ++ t) front) worked.shows
+    (c.in_ok-extend_from_slice.ensures.items ∙ ap (λ (t : List ℕ). vec_items c.args.text.now ++ t) front) worked.shows
     (sym worked.on ∙ not-true c.take_strip-step.result.goes_on c.if-not-step.true)
 
 pub returns : goal.returns
@@ -23,5 +23,5 @@ returns c =
     let front = front_written c.args.out.now (strip_text (strip_outcome s d)) c.take_strip-step.new.out c.take_strip-step.result.wrote worked.bytes worked.wrote in
     input_made c.add_sheets.result (vec_items c.args.text.now) (vec_items c.extend_from_slice.new.self) (vec_items c.add_sheets.new.text) c.take_strip-step.result.read
     d (desk_of c.take_strip-step.new.self) (desk_of c.add_sheets.new.desk) s
-    (c.in-ok-extend_from_slice.ensures.items ∙ ap (λ (t : List ℕ). vec_items c.args.text.now ++ t) front) worked.shows worked.read
+    (c.in_ok-extend_from_slice.ensures.items ∙ ap (λ (t : List ℕ). vec_items c.args.text.now ++ t) front) worked.shows worked.read
     (sym worked.on ∙ not-false c.take_strip-step.result.goes_on c.if-not-step.false) c.add_sheets.ensures

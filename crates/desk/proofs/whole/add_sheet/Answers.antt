@@ -11,5 +11,5 @@ returns c =
     let front = front_written c.args.out.now text c.take_sheet-step.new.out c.take_sheet-step.result.wrote worked.bytes worked.wrote in
     record {
       sheet = record { shows = worked.shows; read = worked.read; within = worked.within; on = worked.on };
-      text = c.in-ok-extend_from_slice.ensures.items ∙ ap (λ (t : List ℕ). vec_items c.args.text.now ++ t) front;
+      text = c.in_ok-extend_from_slice.ensures.items ∙ ap (λ (t : List ℕ). vec_items c.args.text.now ++ t) front;
     }

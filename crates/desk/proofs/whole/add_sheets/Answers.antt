@@ -15,8 +15,8 @@ returns-then-is_empty c =
 pub returns-then-not-step : goal.returns-then-not-step
 returns-then-not-step c =
     let at = c.loop-turn in
-    let step = c.in-ok-step.step in
-    let brought = c.in-ok-step.ensures in
+    let step = c.in_ok-step.step in
+    let brought = c.in_ok-step.ensures in
     let more : 97 - at.turn ≡ suc (97 - (at.turn + 1)) = omega (arith, c.loop-turn-test.true) in
     sheets_ended (vec_items c.args.text.now ++ sheets_text 97 (desk_of c.args.desk.now) c.args.sheets.now) (vec_items at.text) (vec_items c.add_sheet.new.text)
     (97 - (at.turn + 1)) (97 - at.turn) (desk_of at.desk) (desk_of c.add_sheet.new.desk) at.rest.now
@@ -26,8 +26,8 @@ returns-then-not-step c =
 pub loop-turn-preserved : goal.loop-turn-preserved
 loop-turn-preserved c =
     let at = c.loop-turn in
-    let step = c.in-ok-step.step in
-    let brought = c.in-ok-step.ensures in
+    let step = c.in_ok-step.step in
+    let brought = c.in_ok-step.ensures in
     let more : 97 - at.turn ≡ suc (97 - (at.turn + 1)) = omega (arith, c.loop-turn-test.true) in
     let after = vec_items c.add_sheet.new.text in
     let x = desk_of c.add_sheet.new.desk in (

@@ -5,14 +5,14 @@ use Rattle.desk.proofs.Closing.{ends_well}
 use Rattle.desk.proofs.Enough.{sheets_enough}
 use Rattle.desk.proofs.whole.clear_day.Goals as goal
 
-pub returns-in-err-worked : goal.returns-in-err-worked
-returns-in-err-worked c =
-    let p = err_from_is_err_and c.from-residual.result c.from-residual.ensures.1 in
+pub returns-in_err-worked : goal.returns-in_err-worked
+returns-in_err-worked c =
+    let p = err_from_is_err_and c.from_residual.result c.from_residual.ensures.1 in
     record { text = rw p.1 (search rules); accounts = rw p.1 (search rules); enough = sheets_enough }
 
-pub returns-in-err-closed : goal.returns-in-err-closed
-returns-in-err-closed c =
-    let p = err_from_is_err_and c.from-residual-in-err-closed.result c.from-residual-in-err-closed.ensures.1 in
+pub returns-in_err-closed : goal.returns-in_err-closed
+returns-in_err-closed c =
+    let p = err_from_is_err_and c.from_residual-in_err-closed.result c.from_residual-in_err-closed.ensures.1 in
     record { text = rw p.1 (search rules); accounts = rw p.1 (search rules); enough = sheets_enough }
 
 pub returns : goal.returns
@@ -21,6 +21,6 @@ returns c =
     record {
       text = search rules;
       accounts = ends_well (vec_items closed.new.text) (vec_items c.add_input-worked.new.text) (desk_of c.add_input-worked.new.desk).0
-          c.in-ok-closed.ensures.text closed.ensures.led closed.ensures.promise;
+          c.in_ok-closed.ensures.text closed.ensures.led closed.ensures.promise;
       enough = sheets_enough;
     }

@@ -9,24 +9,24 @@ use Rattle.loads.specs.Loads.{tariff_on, tariffs_from}
 use Rattle.loads.proofs.TariffTurns.{Came, next_tells, tariff_ends, fault_at, fault_at_lem, accepted, strip_begins, led_strip, all_set}
 use Rattle.loads.proofs.strips.strip_onto.Goals as goal
 
-pub returns-in-err-market_at : goal.returns-in-err-market_at
-returns-in-err-market_at c =
+pub returns-in_err-market_at : goal.returns-in_err-market_at
+returns-in_err-market_at c =
     let s = c.args.bytes.now in
     let v = shown c.args.day.now in
     let at = c.loop-grid in
     let k = at.grid in
     let x = shown c.tariff.new.self in
-    let fen = get_or c.in-ok-tariffs.tariffs k 0 in
+    let fen = get_or c.in_ok-tariffs.tariffs k 0 in
     let read = ap (λ (xs : List ℕ). get_or xs k 0) at.invariant.1 ∙ tariff_at_lem s 17 k c.loop-grid-test.true in
     let o = market_answer c.tariff.result in
-    let e = c.in-err-market_at.field-0.0 in
+    let e = c.in_err-market_at.field-0.0 in
     let q : Refusal × ℕ = (market_refusal e.fault, e.position) in
-    let p = err_from_is_err_and c.from-residual-in-err-market_at.result c.from-residual-in-err-market_at.ensures.1 in
-    let fault = ap fault_at (sym c.in-err-market_at.was ∙ c.market_at.ensures) ∙ fault_at_lem c.tariff.result k in
+    let p = err_from_is_err_and c.from_residual-in_err-market_at.result c.from_residual-in_err-market_at.ensures.1 in
+    let fault = ap fault_at (sym c.in_err-market_at.was ∙ c.market_at.ensures) ∙ fault_at_lem c.tariff.result k in
     let tells = next_tells k fen s (shown at.day) x (tariffs_from 17 0 s v) o c.loop-grid-test.true read at.invariant.0 c.tariff.ensures.answer c.tariff.ensures.day in
     let all : tariffs_from 17 0 s v ≡ (x, Some q) = tells ∙ tariff_ends o k x (tariffs_from (17 - (k + 1)) (k + 1) s) q fault in
     rw (p.1, p.2) (record {
-      load = strip_begins s v (x, Some q) c.in-ok-tariffs.ensures.answer all;
+      load = strip_begins s v (x, Some q) c.in_ok-tariffs.ensures.answer all;
       calls = led_strip s v x (Some q) all;
     })
 
@@ -37,10 +37,10 @@ loop-grid-preserved c =
     let at = c.loop-grid in
     let k = at.grid in
     let x = shown c.tariff.new.self in
-    let fen = get_or c.in-ok-tariffs.tariffs k 0 in
+    let fen = get_or c.in_ok-tariffs.tariffs k 0 in
     let read = ap (λ (xs : List ℕ). get_or xs k 0) at.invariant.1 ∙ tariff_at_lem s 17 k c.loop-grid-test.true in
     let o = market_answer c.tariff.result in
-    let fault = ap fault_at (sym c.in-ok-market_at.was ∙ c.market_at.ensures) ∙ fault_at_lem c.tariff.result k in
+    let fault = ap fault_at (sym c.in_ok-market_at.was ∙ c.market_at.ensures) ∙ fault_at_lem c.tariff.result k in
     let tells = next_tells k fen s (shown at.day) x (tariffs_from 17 0 s v) o c.loop-grid-test.true read at.invariant.0 c.tariff.ensures.answer c.tariff.ensures.day in (
       tells ∙ ap (λ (a : Option Refusal). tariff_on a k x (tariffs_from (17 - (k + 1)) (k + 1) s)) (accepted c.tariff.result k fault),
       at.invariant.1,
@@ -55,6 +55,6 @@ returns c =
     let x = shown at.day in
     let all = all_set at.grid s x (tariffs_from 17 0 s v) c.loop-grid-test.false at.invariant.0 in
     record {
-      load = strip_begins s v (x, None) c.in-ok-tariffs.ensures.answer all;
+      load = strip_begins s v (x, None) c.in_ok-tariffs.ensures.answer all;
       calls = led_strip s v x None all;
     }

@@ -18,14 +18,14 @@ returns-then-quantity-self g c =
       declined = search rules;
     }
 
-pub returns-in-err-take : goal.returns-in-err-take
-returns-in-err-take g c =
+pub returns-in_err-take : goal.returns-in_err-take
+returns-in_err-take g c =
     let s = c.args.self.now in
     let A = g.S.Screen.ontop s.below in
-    let p = err_from_is_err_and c.from-residual.result c.from-residual.ensures.1 in
-    let told = c.in-err-take.ensures in
+    let p = err_from_is_err_and c.from_residual.result c.from_residual.ensures.1 in
+    let told = c.in_err-take.ensures in
     record {
-      answer = answer_under_ceiling s.table.left A c.args.place (g.met.S.Screen.ontop_lawful s.below) (omega arith) c.args.quantity (answer_of c.from-residual.result) (omega arith) (rw (p.1, p.2) told.answer);
+      answer = answer_under_ceiling s.table.left A c.args.place (g.met.S.Screen.ontop_lawful s.below) (omega arith) c.args.quantity (answer_of c.from_residual.result) (omega arith) (rw (p.1, p.2) told.answer);
       taken = rw p.1 (search rules);
       set = search rules;
       declined = search rules;
@@ -35,7 +35,7 @@ pub returns : goal.returns
 returns g c =
     let s = c.args.self.now in
     let A = g.S.Screen.ontop s.below in
-    let told = c.in-ok-take.ensures in
+    let told = c.in_ok-take.ensures in
     record {
       answer = answer_under_ceiling s.table.left A c.args.place (g.met.S.Screen.ontop_lawful s.below) (omega arith) c.args.quantity None (omega arith) told.answer;
       taken = λ ok. take_under_ceiling s.table.left A (g.S.Screen.ontop c.take.new.self) c.args.place c.args.quantity (omega arith) (omega arith) (told.taken ok);
