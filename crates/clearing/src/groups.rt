@@ -25,12 +25,12 @@ fn group_capacity(group: &[Tier]) -> u32
 // Takes at a place as much as the quantity and the room there allow, and says how much.
 fn take_up_to<S: Screen>(place: Place, quantity: u32, screen: &mut S, awards: &mut [u32]) -> u32
     requires long { length awards.old ≡ 256 }
-    requires open { S.ontop screen.old ≡ above (award_of awards.old) (fresh screen.old) }
+    requires open { S.ontop screen.old ≡ above (award_of awards.old) (S.fresh screen.old) }
     requires fits { total (award_of awards.old) + quantity < 2 ^ 32 }
     ensures taken { result ≡ min quantity (room_over (S.fresh screen.old) (award_of awards.old) place.number) }
     ensures award { award_of awards.new ≡ raise (award_of awards.old) place.number result }
     ensures more { total (award_of awards.new) ≡ total (award_of awards.old) + result }
-    ensures open { S.ontop screen.new ≡ above (award_of awards.new) (fresh screen.old) }
+    ensures open { S.ontop screen.new ≡ above (award_of awards.new) (S.fresh screen.old) }
     ensures set { S.settings screen.new ≡ S.settings screen.old }
     ensures long { length awards.new ≡ 256 }
 {
@@ -48,11 +48,11 @@ fn take_up_to<S: Screen>(place: Place, quantity: u32, screen: &mut S, awards: &m
 fn first_round<S: Screen>(group: &[Tier], want: u32, screen: &mut S, awards: &mut [u32]) -> u32
     requires few { length group.now ≤ 256 }
     requires long { length awards.old ≡ 256 }
-    requires open { S.ontop screen.old ≡ above (award_of awards.old) (fresh screen.old) }
+    requires open { S.ontop screen.old ≡ above (award_of awards.old) (S.fresh screen.old) }
     requires fits { total (award_of awards.old) + want < 2 ^ 32 }
     ensures award { award_of awards.new ≡ first_round (S.fresh screen.old) (places_of group.now) (targets want (capacities_of group.now)) (award_of awards.old) }
     ensures taken { (result + total (award_of awards.old) ≡ total (award_of awards.new)) × (result ≤ want) }
-    ensures open { S.ontop screen.new ≡ above (award_of awards.new) (fresh screen.old) }
+    ensures open { S.ontop screen.new ≡ above (award_of awards.new) (S.fresh screen.old) }
     ensures set { S.settings screen.new ≡ S.settings screen.old }
     ensures long { length awards.new ≡ 256 }
 {
@@ -73,11 +73,11 @@ fn first_round<S: Screen>(group: &[Tier], want: u32, screen: &mut S, awards: &mu
 // The second round: in order each tier takes as much more as the want, its capacity and the room allow. What the round took.
 fn second_round<S: Screen>(group: &[Tier], want: u32, screen: &mut S, awards: &mut [u32]) -> u32
     requires long { length awards.old ≡ 256 }
-    requires open { S.ontop screen.old ≡ above (award_of awards.old) (fresh screen.old) }
+    requires open { S.ontop screen.old ≡ above (award_of awards.old) (S.fresh screen.old) }
     requires fits { total (award_of awards.old) + want < 2 ^ 32 }
     ensures award { award_of awards.new ≡ second_round (S.fresh screen.old) (total (award_of awards.old) + want) (places_of group.now) (capacities_of group.now) (award_of awards.old) }
     ensures taken { (result + total (award_of awards.old) ≡ total (award_of awards.new)) × (result ≤ want) }
-    ensures open { S.ontop screen.new ≡ above (award_of awards.new) (fresh screen.old) }
+    ensures open { S.ontop screen.new ≡ above (award_of awards.new) (S.fresh screen.old) }
     ensures set { S.settings screen.new ≡ S.settings screen.old }
     ensures long { length awards.new ≡ 256 }
 {
@@ -94,11 +94,11 @@ fn second_round<S: Screen>(group: &[Tier], want: u32, screen: &mut S, awards: &m
 pub fn work_group<S: Screen>(group: &[Tier], want: u32, screen: &mut S, awards: &mut [u32]) -> u32
     requires few { length group.now ≤ 256 }
     requires long { length awards.old ≡ 256 }
-    requires open { S.ontop screen.old ≡ above (award_of awards.old) (fresh screen.old) }
+    requires open { S.ontop screen.old ≡ above (award_of awards.old) (S.fresh screen.old) }
     requires fits { total (award_of awards.old) + want < 2 ^ 32 }
     ensures award { award_of awards.new ≡ work_tiers (S.fresh screen.old) (total (award_of awards.old) + want) (places_of group.now) (capacities_of group.now) (award_of awards.old) }
     ensures taken { (result + total (award_of awards.old) ≡ total (award_of awards.new)) × (result ≤ want) }
-    ensures open { S.ontop screen.new ≡ above (award_of awards.new) (fresh screen.old) }
+    ensures open { S.ontop screen.new ≡ above (award_of awards.new) (S.fresh screen.old) }
     ensures set { S.settings screen.new ≡ S.settings screen.old }
     ensures long { length awards.new ≡ 256 }
 {

@@ -31,11 +31,11 @@ pub(crate) fn work_levels<S: Screen>(
 ) -> Taken
     requires few { (from ≤ length ranked.now) × (length ranked.now ≤ 256) }
     requires long { length awards.old ≡ 256 }
-    requires open { S.ontop screen.old ≡ above (award_of awards.old) (fresh screen.old) }
+    requires open { S.ontop screen.old ≡ above (award_of awards.old) (S.fresh screen.old) }
     requires fits { total (award_of awards.old) + want < 2 ^ 32 }
     ensures within { (from ≤ result.end) × (result.end ≤ length ranked.now) }
     ensures taken { (result.quantity + total (award_of awards.old) ≡ total (award_of awards.new)) × (result.quantity ≤ want) }
-    ensures open { S.ontop screen.new ≡ above (award_of awards.new) (fresh screen.old) }
+    ensures open { S.ontop screen.new ≡ above (award_of awards.new) (S.fresh screen.old) }
     ensures set { S.settings screen.new ≡ S.settings screen.old }
     ensures long { length awards.new ≡ 256 }
     ensures swept { (e : Entries) (low : ℕ) → Sequence e ranked.now → CutAt ranked.now from low → low ≤ 8 * suc bid → CutAt ranked.now result.end (8 * suc bid) × (sweep (S.fresh screen.old) e (total (award_of awards.old) + want) low (8 * suc bid - low) (swept_from (award_of awards.old) 0) ≡ swept_from (award_of awards.new) result.price) }

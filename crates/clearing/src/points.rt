@@ -87,10 +87,10 @@ fn work_segment<S: Screen>(
     requires bidden { some_bids (entries_of entries.now) bid ≡ true }
     requires sequence { Sequence (entries_of entries.now) ranked.now }
     requires reached { Reached (S.fresh screen.old) (entries_of entries.now) bid ranked.now at cleared.old }
-    requires open { S.ontop screen.old ≡ above (award_of cleared.old.awards) (fresh screen.old) }
+    requires open { S.ontop screen.old ≡ above (award_of cleared.old.awards) (S.fresh screen.old) }
     ensures within { result ≤ length ranked.now }
     ensures reached { Reached (S.fresh screen.old) (entries_of entries.now) (suc bid) ranked.now result cleared.new }
-    ensures open { S.ontop screen.new ≡ above (award_of cleared.new.awards) (fresh screen.old) }
+    ensures open { S.ontop screen.new ≡ above (award_of cleared.new.awards) (S.fresh screen.old) }
     ensures set { S.settings screen.new ≡ S.settings screen.old }
 {
     let mut wants: [u32; 16] = [0; 16];
@@ -111,7 +111,7 @@ fn work_segment<S: Screen>(
 // Clears a point: resets the screen, works every segment through room and take, and leaves the awards taken in the screen.
 pub fn clear<S: Screen>(entries: &PointEntries, screen: &mut S) -> Cleared
     ensures declared { Declares (entries_of entries.now) (suc max_price) (outcome (S.fresh screen.old) (entries_of entries.now)) result }
-    ensures opened { S.ontop screen.new ≡ above (outcome (fresh screen.old) (entries_of entries.now)).award (fresh screen.old) }
+    ensures opened { S.ontop screen.new ≡ above (outcome (S.fresh screen.old) (entries_of entries.now)).award (S.fresh screen.old) }
     ensures set { S.settings screen.new ≡ S.settings screen.old }
     ensures worthy { Worthy (S.fresh screen.old) (entries_of entries.now) (outcome (S.fresh screen.old) (entries_of entries.now)) }
     ensures segments { (b : ℕ) → some_bids (entries_of entries.now) b ≡ true → SoundSegment (entries_of entries.now) (outcome (S.fresh screen.old) (entries_of entries.now)) b }
