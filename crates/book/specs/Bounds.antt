@@ -1,7 +1,6 @@
 -- How much money there can be.
-use Rattle.std.specs.Prelude.{◌≡◌, ℕ, ◌+◌, ◌*◌, ◌<◌, ◌≤◌, None, Option}
+use Rattle.std.specs.Prelude.{◌≡◌, ℕ, ◌+◌, ◌*◌, ◌<◌, ◌≤◌, None}
 use Rattle.market.specs.Maxima.{unit_count, grid_count, place_count, bands_of_unit, max_figure}
-use Rattle.outcome.specs.Entries.{Entries}
 use Rattle.book.specs.Views.{View, Declaration, between_at, entries_in}
 use Rattle.book.specs.Money.{grid_of, paid_at, charge_of, receipt_of, wires_of, branch_of}
 

@@ -4,7 +4,7 @@ use Rattle.lawful.specs.Awards.{AwardSet}
 use Rattle.market.specs.declared.entries.RawOffer.{RawOffer}
 use Rattle.market.specs.declared.refusals.Refusal.{Refusal}
 use Rattle.outcome.specs.Outcome.{outcome, at}
-use Rattle.book.specs.Views.{View, Stage, entering, cleared, Declaration, declared, Asked, empty_day, entries_in}
+use Rattle.book.specs.Views.{View, Stage, entering, cleared, declared, Asked, empty_day, entries_in}
 use Rattle.book.specs.Calls.{Call, tariff, offer, withdraw, bid, clear, reopen, post}
 use Rattle.book.specs.Tables.{refusal}
 use Rattle.book.specs.Money.{posted_money}

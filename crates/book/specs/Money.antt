@@ -1,8 +1,7 @@
 -- What a post adds to the accounts.
-use Rattle.std.specs.Prelude.{ℕ, suc, ◌+◌, ◌-◌, ◌*◌, cond, ◌&&◌, Option, ◌==◌}
+use Rattle.std.specs.Prelude.{ℕ, suc, ◌+◌, ◌-◌, ◌*◌, cond, ◌&&◌, ◌==◌}
 use Rattle.lawful.specs.Sums.{sum_to}
 use Rattle.market.specs.Maxima.{unit_count, grid_count, bands_of_unit, place_count, max_price}
-use Rattle.market.specs.declared.entries.RawOffer.{RawOffer}
 use Rattle.outcome.specs.Entries.{Entries, some_bids}
 use Rattle.outcome.specs.Laws.{in_segment}
 use Rattle.outcome.specs.View.{figure_of}

@@ -1,7 +1,6 @@
 -- The accepted posts of a list of calls, and what they add up to.
 use Rattle.std.specs.Prelude.{◌≡◌, ℕ, ◌+◌, List, [], ◌∷◌, Some, None, Option}
 use Rattle.market.specs.declared.refusals.Refusal.{Refusal}
-use Rattle.market.specs.declared.entries.RawOffer.{RawOffer}
 use Rattle.book.specs.Views.{View, Stage, entering, cleared, Declaration}
 use Rattle.book.specs.Calls.{Call, tariff, offer, withdraw, bid, clear, reopen, post}
 use Rattle.book.specs.Tables.{refusal}

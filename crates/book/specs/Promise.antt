@@ -1,18 +1,16 @@
 -- What holds after every list of calls.
-use Rattle.std.specs.Prelude.{◌≡◌, ℕ, ◌+◌, ◌*◌, ◌<◌, ◌≤◌, true, List, [], ◌∷◌, ◌++◌, Some, None, Option, MatchOption, slice_index}
+use Rattle.std.specs.Prelude.{◌≡◌, ℕ, ◌+◌, ◌*◌, ◌<◌, ◌≤◌, true, List, ◌++◌, Some, None, Option, slice_index}
 use Rattle.lawful.specs.Sums.{sum_to}
 use Rattle.lawful.specs.Awards.{AwardSet}
 use Rattle.lawful.specs.Lawful.{Lawful}
 use Rattle.lawful.specs.Worth.{Most, MostOfTotal, Cheapest, up_to}
 use Rattle.market.specs.Maxima.{unit_count, grid_count, place_count, bands_of_unit}
-use Rattle.market.specs.declared.entries.RawOffer.{RawOffer}
-use Rattle.outcome.specs.Entries.{Entries, level}
+use Rattle.outcome.specs.Entries.{level}
 use Rattle.outcome.specs.Laws.{permitted}
 use Rattle.outcome.specs.Outcome.{outcome}
 use Rattle.outcome.specs.View.{figure_of}
 use Rattle.book.specs.Views.{View, Stage, entering, cleared, Declaration, declared, Money, entries_in}
-use Rattle.book.specs.Calls.{Call, post}
-use Rattle.book.specs.Tables.{refusal}
+use Rattle.book.specs.Calls.{Call}
 use Rattle.book.specs.Money.{charge_of, receipt_at}
 use Rattle.book.specs.Histories.{history, under}
 use Rattle.book.specs.Posts.{SumsOfPosts}

@@ -1,7 +1,7 @@
 -- Why a call is declined: the table of refusals, by what the day shows and the call. The topmost row that applies is given.
 use Rattle.std.specs.Prelude.{ℕ, Bool, true, false, not, ◌&&◌, ◌||◌, List, [], ◌∷◌, ◌++◌, is_some, Option, ◌==◌, nat_le, nat_lt}
 use Rattle.market.specs.Entries.{offer_rows, bid_rows, tariff_rows}
-use Rattle.market.specs.Maxima.{unit_count, grid_count, branch_dispatch, point_count, max_entries}
+use Rattle.market.specs.Maxima.{unit_count, branch_dispatch, point_count, max_entries}
 use Rattle.market.specs.Refusals.{refusal_of}
 use Rattle.market.specs.Rows.{Row, row, topmost}
 use Rattle.market.specs.declared.refusals.Refusal.{Refusal}

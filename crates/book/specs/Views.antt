@@ -1,6 +1,6 @@
 -- What a running day shows.
-use Rattle.std.specs.Prelude.{ℕ, ◌+◌, ◌*◌, ◌/◌, ◌%◌, Some, None, Option, slice_index}
-use Rattle.market.specs.Bands.{Scheme, scheme_of, capacity_of}
+use Rattle.std.specs.Prelude.{ℕ, ◌/◌, ◌%◌, Some, None, Option, slice_index}
+use Rattle.market.specs.Bands.{scheme_of, capacity_of}
 use Rattle.market.specs.Classes.{class_at}
 use Rattle.market.specs.Entries.{figures_in}
 use Rattle.market.specs.Landing.{between, landed_from}

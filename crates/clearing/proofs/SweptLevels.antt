@@ -1,5 +1,5 @@
 -- The sellers' sequence swept level by level, from the group at one level to the next.
-use Rattle.std.proofs.Common.{◌≡◌, ℕ, zero, suc, ◌+◌, ◌-◌, ◌*◌, ◌/◌, ◌<◌, ◌≤◌, cond, ltb, ◌⊎◌, List, [], length, get_or, sym, refl, ap, ◌∙◌, inl, inr, add-zero, add-suc, arith}
+use Rattle.std.proofs.Common.{◌≡◌, ℕ, zero, suc, ◌+◌, ◌-◌, ◌*◌, ◌/◌, ◌<◌, ◌≤◌, cond, ltb, ◌⊎◌, List, [], length, get_or, sym, ap, ◌∙◌, inl, inr, add-zero, add-suc, arith}
 use Rattle.std.specs.List.{between}
 use Rattle.std.proofs.lemmas.Bool.{cases_lt, le-ltb}
 use Rattle.lawful.specs.Awards.{Award, AwardSet}

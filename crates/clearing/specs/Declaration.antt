@@ -1,6 +1,6 @@
 -- What a clearing declares, read off its tables, against the outcome that the rules yield.
 use Rattle.std.specs.Prelude.{◌≡◌, ℕ, ◌<◌, ◌≤◌, true, get_or, replicate, slice_index, slice_index_or}
-use Rattle.market.specs.Maxima.{grid_count, place_count}
+use Rattle.market.specs.Maxima.{grid_count}
 use Rattle.outcome.specs.Entries.{Entries, some_bids}
 use Rattle.outcome.specs.Outcome.{Outcome}
 use Rattle.clearing.specs.declared.points.Segment.{Segment}

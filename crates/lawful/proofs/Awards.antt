@@ -3,7 +3,7 @@ use Rattle.std.proofs.Common.{◌≡◌, ℕ, ◌+◌, ◌<◌, ◌≤◌, Bool,
 use Rattle.std.proofs.lemmas.Bool.{eq-eqb, ne_eqb, cases_Bool, cases_eq, cond-true, cond-false}
 use Rattle.std.proofs.lemmas.Bool.Decides.{nat_tests}
 use Rattle.lawful.specs.Sums.{sum_to}
-use Rattle.lawful.specs.Awards.{Award, zero_award, raise, plus, keep, within, by_class}
+use Rattle.lawful.specs.Awards.{Award, zero_award, raise, keep, within, by_class}
 use Rattle.lawful.proofs.Sums.{sum_le, sum_same, sum_plus, sum_zeros, sum_place, sum_of_sums}
 
 -- The place that is raised holds q more.

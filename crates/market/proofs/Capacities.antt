@@ -1,8 +1,7 @@
 -- The capacities of a scheme's bands add up to the part of the stretch above its first edge.
-use Rattle.std.proofs.Common.{◌≡◌, ℕ, zero, suc, ◌+◌, ◌-◌, ◌*◌, ◌/◌, ◌<◌, ◌≤◌, min, max, true, cond, ltb, List, [], ◌∷◌, sum, sym, refl, ap, ◌∙◌, subst, le_of_lt, mul-le-mul_left, mul-zero, mul-div_cancel, arith, lit<, lt-ltb}
-use native.Mathlib.Nat.{zero-div}
+use Rattle.std.proofs.Common.{◌≡◌, ℕ, zero, suc, ◌+◌, ◌-◌, ◌*◌, ◌/◌, ◌<◌, ◌≤◌, max, true, ltb, sum, ap, ◌∙◌, le_of_lt, mul-le-mul_left, mul-zero, mul-div_cancel, arith, lit<, lt-ltb}
 use Rattle.std.proofs.lemmas.List.Sums.{sum_by-cons}
-use Rattle.market.specs.Bands.{Scheme, Rising, Figures, headroom_of, top_of, edge_of, capacity_of, capacities_from, capacities, AddsUp, AddsUpFromZero}
+use Rattle.market.specs.Bands.{Scheme, Rising, Figures, top_of, edge_of, capacity_of, capacities_from, AddsUp, AddsUpFromZero}
 use Rattle.market.proofs.Quotients.{div_mono}
 
 -- The stretch ends at the nameplate or below.

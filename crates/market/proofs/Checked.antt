@@ -1,9 +1,9 @@
 -- The checks of figures and offers, one element after the other.
-use Rattle.std.proofs.Common.{◌≡◌, ℕ, zero, suc, ◌+◌, ◌-◌, ◌<◌, ◌≤◌, Bool, true, false, ◌&&◌, ◌||◌, eqb, ltb, leb, List, [], ◌∷◌, map, length, get_or, drop, Some, None, Option, sym, refl, ap, ◌∙◌, inl, inr, arith}
+use Rattle.std.proofs.Common.{◌≡◌, ℕ, zero, suc, ◌+◌, ◌-◌, ◌<◌, ◌≤◌, Bool, true, false, ◌&&◌, ◌||◌, eqb, ltb, leb, List, [], ◌∷◌, map, length, get_or, drop, Some, sym, refl, ap, ◌∙◌, inl, inr, arith}
 use Rattle.std.proofs.lemmas.List.{drop_more}
 use Rattle.std.proofs.lemmas.Bool.{lt-ltb, le-ltb, le-leb, lt-leb, eq-eqb, ne_eqb, or_parts, ltb-false, cases_Bool, cond-true, cond-false, eqb-true}
 use Rattle.market.specs.Classes.{class_number, class_at, class_in, all_classes}
-use Rattle.market.specs.Bands.{Figures, figures_of}
+use Rattle.market.specs.Bands.{figures_of}
 use Rattle.market.specs.Entries.{any_above, keeps_bands, figures_in, handed_over}
 use Rattle.market.specs.declared.classes.Class.{Class}
 use Rattle.market.specs.declared.entries.RawOffer.{RawOffer}

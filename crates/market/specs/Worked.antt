@@ -1,5 +1,5 @@
 -- Cases worked by hand.
-use Rattle.std.specs.Prelude.{◌≡◌, List, [], ◌∷◌}
+use Rattle.std.specs.Prelude.{◌≡◌, [], ◌∷◌}
 use Rattle.market.specs.Bands.{Figures, three_bands, headroom_of, capacities}
 use Rattle.market.specs.Sharing.{shares_of}
 

@@ -1,5 +1,5 @@
 -- How the tiers of one group take, in two rounds, under what is permitted on top of the award so far.
-use Rattle.std.specs.Prelude.{ℕ, zero, suc, ◌-◌, min, Bool, cond, ◌&&◌, List, [], ◌∷◌, map, sum, ◌==◌, nat_le, nat_lt}
+use Rattle.std.specs.Prelude.{ℕ, zero, suc, ◌-◌, min, cond, ◌&&◌, List, [], ◌∷◌, map, sum, ◌==◌, nat_le, nat_lt}
 use Rattle.lawful.specs.Sums.{sum_to}
 use Rattle.lawful.specs.Awards.{Award, AwardSet, raise}
 use Rattle.lawful.specs.Lawful.{above}

@@ -1,5 +1,5 @@
 -- What clearing a point yields: the segments in rising order of their bids.
-use Rattle.std.specs.Prelude.{ℕ, zero, suc, ◌+◌, ◌-◌, ◌*◌, ◌/◌, Bool, cond, List, [], ◌∷◌, sum, ◌==◌, nat_le, nat_lt, slice_index}
+use Rattle.std.specs.Prelude.{ℕ, zero, suc, ◌+◌, ◌-◌, ◌*◌, ◌/◌, cond, List, [], ◌∷◌, sum, ◌==◌, nat_le, nat_lt, slice_index}
 use Rattle.lawful.specs.Awards.{Award, AwardSet, zero_award}
 use Rattle.market.specs.Maxima.{grid_count, max_price}
 use Rattle.market.specs.Sharing.{shares_of}

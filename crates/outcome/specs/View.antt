@@ -1,8 +1,6 @@
 -- The entries of a point, read off the tables that hold them.
-use Rattle.std.specs.Prelude.{ℕ, List, Some, None, Option, slice_index_or}
+use Rattle.std.specs.Prelude.{ℕ, Some, None, Option, slice_index_or}
 use Rattle.market.specs.Classes.{class_number}
-use Rattle.market.specs.declared.tiers.Tier.{Tier}
-use Rattle.market.specs.declared.tiers.Bid.{Bid}
 use Rattle.outcome.specs.Entries.{Entries}
 use Rattle.outcome.specs.declared.PointEntries.{PointEntries}
 

@@ -1,5 +1,5 @@
 -- A group worked by hand: two tied tiers with capacities 60 and 40 and a want of 50.
-use Rattle.std.specs.Prelude.{◌≡◌, ℕ, true, cond, List, [], ◌∷◌, ◌==◌}
+use Rattle.std.specs.Prelude.{◌≡◌, ℕ, true, cond, [], ◌∷◌, ◌==◌}
 use Rattle.lawful.specs.Awards.{Award, AwardSet, zero_award}
 use Rattle.lawful.specs.Lawful.{capped}
 use Rattle.market.specs.Maxima.{place_count, max_figure}

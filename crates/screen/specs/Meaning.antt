@@ -1,5 +1,5 @@
 -- What the calls of a screen answer and leave, by the set of awards that is open.
-use Rattle.std.specs.Prelude.{ℕ, Bool, cond, not, List, [], ◌∷◌, set, Some, None, Ok, Err, Option, Result, ◌==◌, nat_le, nat_lt, slice_index_or, slice_set}
+use Rattle.std.specs.Prelude.{ℕ, Bool, cond, not, List, [], ◌∷◌, Some, None, Ok, Err, Option, Result, ◌==◌, nat_le, nat_lt, slice_index_or, slice_set}
 use Rattle.lawful.specs.Sums.{greatest}
 use Rattle.lawful.specs.Awards.{AwardSet, zero_award, raise}
 use Rattle.market.specs.Maxima.{unit_count, place_count, max_figure, max_limit}

@@ -1,13 +1,12 @@
 -- Rooms and takes, by the set that is open.
-use Rattle.std.specs.Prelude.{◌≡◌, ℕ, ◌<◌, ◌≤◌, min, Bool, true, false, cond, List, [], ◌∷◌, Some, None, Option, nat_le, refl}
-use Rattle.std.proofs.Common.{sym, ap, ◌∙◌, arith}
+use Rattle.std.specs.Prelude.{◌≡◌, ℕ, ◌<◌, ◌≤◌, min, true, Some, None, nat_le, refl}
+use Rattle.std.proofs.Common.{sym}
 use Rattle.std.proofs.lemmas.Bool.{lt-ltb, le-ltb, le-leb, lt-leb}
-use Rattle.lawful.specs.Awards.{Award, AwardSet, zero_award, raise}
+use Rattle.lawful.specs.Awards.{AwardSet, zero_award, raise}
 use Rattle.lawful.specs.Lawful.{Lawful}
 use Rattle.lawful.proofs.Sums.{greatest_is, less_somewhere}
 use Rattle.market.specs.Refusals.{refusal_of}
 use Rattle.market.specs.Rows.{topmost}
-use Rattle.market.specs.declared.refusals.Refusal.{Refusal}
 use Rattle.screen.specs.Meaning.{room_at, take_rows}
 
 -- Where the quantities permitted at a place alone are those up to r, the room is r, at most 20,000.

@@ -1,9 +1,5 @@
 -- A header or record whose every field is what the bytes say is the one that the bytes say.
 use Rattle.std.proofs.Common.{◌≡◌, ℕ, List, [], ◌∷◌, get_or}
-use Rattle.market.specs.declared.entries.RawOffer.{RawOffer}
-use Rattle.sheet.specs.declared.header.Header.{Header}
-use Rattle.sheet.specs.declared.records.BidRecord.{BidRecord}
-use Rattle.sheet.specs.declared.records.LimitRecord.{LimitRecord}
 use Rattle.sheet.specs.Layout.{word16, word32, header_of, unit_at, bid_at, limit_at}
 
 pub header_by_fields : (s : List ℕ) {long units bids limits point : ℕ} → long ≡ word16 s 0 → units ≡ word16 s 2 → bids ≡ word16 s 4 → limits ≡ word16 s 6 → point ≡ word16 s 8 → record { length = long; units = units; bids = bids; limits = limits; point = point } ≡ header_of s

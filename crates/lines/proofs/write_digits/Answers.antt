@@ -1,5 +1,5 @@
 use Rattle.std.proofs.Common.{◌∙◌, arith}
-use Rattle.lines.proofs.Digits.{digits_some, length_digits_one, length_digits_more}
+use Rattle.lines.proofs.Digits.{digits_some, length_digits_more}
 use Rattle.lines.proofs.Lines.{last_digit_written, first_digit_written}
 use Rattle.lines.proofs.write_digits.Goals as goal
 

@@ -1,4 +1,4 @@
-use Rattle.std.proofs.Common.{◌≡◌, true, false, cond, ltb, arith, rules, le-ltb, lt-ltb}
+use Rattle.std.proofs.Common.{rules}
 use Rattle.market.specs.Bands.{figures_of}
 use Rattle.market.proofs.Capacities.{adds_up, adds_up_from_zero}
 use Rattle.market.proofs.WorkedByHand.{worked_capacities}

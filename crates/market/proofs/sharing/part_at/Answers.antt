@@ -1,4 +1,4 @@
-use Rattle.std.proofs.Common.{arith, rules}
+use Rattle.std.proofs.Common.{rules}
 use Rattle.market.proofs.Shares.{quotient_le}
 use Rattle.market.proofs.sharing.part_at.Goals as goal
 

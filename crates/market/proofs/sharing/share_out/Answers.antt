@@ -1,7 +1,6 @@
-use Rattle.std.proofs.Common.{◌≡◌, ℕ, ◌+◌, ◌<◌, ◌≤◌, Bool, true, false, ◌&&◌, length, get_or, take, sum, sym, refl, ap, ◌∙◌, subst, arith, length-set, take_all, rules}
+use Rattle.std.proofs.Common.{◌≡◌, ℕ, ◌+◌, ◌≤◌, length, get_or, take, sum, sym, ap, ◌∙◌, subst, arith, length-set, take_all}
 use Rattle.std.proofs.lemmas.List.Sums.{sum_by_more, sum_by-take-le}
-use Rattle.std.proofs.lemmas.Bool.{eq-eqb, lt-ltb, le-leb}
-use Rattle.market.specs.Sharing.{shares_of, share_at, Fair, can_share}
+use Rattle.market.specs.Sharing.{shares_of, share_at, Fair}
 use Rattle.market.proofs.Shares.{share_written, shares_fair, length_shares, can_share_lem}
 use Rattle.market.proofs.WorkedByHand.{worked_shares}
 use Rattle.market.proofs.sharing.share_out.Goals as goal

@@ -1,4 +1,4 @@
-use Rattle.std.proofs.Common.{◌≡◌, ◌≤◌, length, take, sum}
+use Rattle.std.proofs.Common.{◌≡◌, take, sum}
 use Rattle.market.proofs.sharing.sum_of.Given as goal
 
 abbrev pub invariant-loop-claim : goal.invariant-loop-claim

@@ -1,4 +1,4 @@
-use Rattle.std.proofs.Common.{◌≡◌, List, [], ◌∷◌, length, get_or, ◌∙◌, rules}
+use Rattle.std.proofs.Common.{◌≡◌, [], ◌∷◌, length, get_or, ◌∙◌, rules}
 use Rattle.market.proofs.Checked.{offer_small, four, class_told, handed_over_lem}
 use Rattle.market.proofs.entries.UnitOffer.checked.Goals as goal
 

@@ -1,4 +1,4 @@
-use Rattle.std.proofs.Common.{◌≡◌, ◌<◌, length, sym, ap, ◌∙◌, rules}
+use Rattle.std.proofs.Common.{◌<◌, length, sym, ap, ◌∙◌, rules}
 use Rattle.std.proofs.lemmas.List.{get_or-map}
 use Rattle.market.specs.Landing.{landed}
 use Rattle.market.proofs.entries.UnitOffer.tier.Goals as goal

@@ -1,4 +1,4 @@
-use Rattle.std.proofs.Common.{◌+◌, refl, arith, rules}
+use Rattle.std.proofs.Common.{◌+◌, arith, rules}
 use Rattle.market.proofs.Shares.{part_rises, share_le}
 use Rattle.market.proofs.sharing.Sharing.serve.Goals as goal
 
