@@ -119,10 +119,10 @@ impl RunningDay {
 
     // Clears the point through a screen: resets it, and leaves the awards taken in it. Declined, it leaves day and screen as they were.
     pub fn clear<S: Screen>(&mut self, screen: &mut S) -> Result<(), MarketRefusal>
-        ensures day { Clears (fresh screen.old) (shown self.old) (market_answer result) (shown self.new) }
-        ensures declared { is_ok result ≡ true → StageWell (shown self.new) (shown self.new).stage (Some (fresh screen.old)) }
-        ensures taken { is_ok result ≡ true → ontop screen.new ≡ above (award_shown self.new) (fresh screen.old) }
-        ensures set { (settings screen.new ≡ settings screen.old) × (fresh screen.new ≡ fresh screen.old) }
+        ensures day { Clears (S.fresh screen.old) (shown self.old) (market_answer result) (shown self.new) }
+        ensures declared { is_ok result ≡ true → StageWell (shown self.new) (shown self.new).stage (Some (S.fresh screen.old)) }
+        ensures taken { is_ok result ≡ true → S.ontop screen.new ≡ above (award_shown self.new) (S.fresh screen.old) }
+        ensures set { (S.settings screen.new ≡ S.settings screen.old) × (S.fresh screen.new ≡ S.fresh screen.old) }
         ensures declined { is_ok result ≡ false → screen.new ≡ screen.old }
     {
         self.admit(CallKind::Clear, 0)?;

@@ -48,7 +48,7 @@ invariant_of-self g c =
     let stored = cleared-day.stored A laws d.register e tables ranged c.entries-entries.ensures told.sums told.declared in
     let accepted = accepted_turn (shown d) (clear A laws) (sym c.in_ok-admit.ensures) in
     let shows : after ≡ turn (clear A laws) (shown d) = ap (λ x. with_stage (cleared x) (shown d)) is ∙ sym accepted in
-    (led_on (shown d) after d.state (Cleared tables) (clear A laws) d.followed shows (A, laws, stored), tt)
+    record { followed = led_on (shown d) after d.state (Cleared tables) (clear A laws) d.followed shows (A, laws, stored) }
 
 pub returns : goal.returns
 returns g c =

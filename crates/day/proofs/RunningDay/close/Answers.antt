@@ -8,7 +8,7 @@ use Rattle.book.proofs.Promised.{promise, kept_throughout}
 use Rattle.day.proofs.RunningDay.close.Goals as goal
 
 pub invariant_of-result : goal.invariant_of-result
-invariant_of-result c = (∥∥₁_map c.args.self.followed (λ x. (x.0, ap (λ v. v.money) x.1)), tt)
+invariant_of-result c = record { settled = ∥∥₁_map c.args.self.followed (λ x. (x.0, ap (λ v. v.money) x.1)) }
 
 pub returns : goal.returns
 returns c = record {

@@ -14,7 +14,7 @@ invariant_of-self c =
     let call = offer c.args.raw.now in
     let after = shown_of d.posted (d.entered + 1) c.enter_offer.new.self d.state d.ledger in
     let shows : after ≡ turn call (shown d) = search rules in
-    (led_on (shown d) after d.state d.state call d.followed shows (entry_stores after d.posted d.state c.args.raw.now.unit c.in_ok-admit.ensures), tt)
+    record { followed = led_on (shown d) after d.state d.state call d.followed shows (entry_stores after d.posted d.state c.args.raw.now.unit c.in_ok-admit.ensures) }
 
 pub returns-in_err-offer : goal.returns-in_err-offer
 returns-in_err-offer c =

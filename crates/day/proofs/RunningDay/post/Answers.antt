@@ -28,7 +28,7 @@ invariant_of-self c =
     let shows : after ≡ turn post (shown d) =
     post_turn d.posted d.entered d.register d.state c.in-Cleared.cleared d.ledger c.remove_entries.new.self c.post.new.ledger
     c.in-Cleared.is c.in_ok-admit.ensures told.others told.offers told.bids c.post.ensures in
-    (led_on (shown d) after d.state Entering post d.followed shows tt, tt)
+    record { followed = led_on (shown d) after d.state Entering post d.followed shows tt }
 
 pub returns : goal.returns
 returns c =

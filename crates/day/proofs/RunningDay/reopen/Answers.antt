@@ -8,4 +8,4 @@ use Rattle.day.proofs.RunningDay.reopen.Goals as goal
 pub invariant_of-self : goal.invariant_of-self
 invariant_of-self c =
     let d = c.args.self.now in
-    (led_on (shown d) _ d.state Entering reopen d.followed (sym (accepted_turn (shown d) reopen (sym c.in_ok-admit.ensures))) tt, tt)
+    record { followed = led_on (shown d) _ d.state Entering reopen d.followed (sym (accepted_turn (shown d) reopen (sym c.in_ok-admit.ensures))) tt }

@@ -7,4 +7,4 @@ use Rattle.day.proofs.RunningDay.start.Goals as goal
 pub invariant_of-result : goal.invariant_of-result
 invariant_of-result c =
     let shows : shown_of 0 0 c.empty.result Entering c.empty-2.result ≡ empty_day = search rules in
-    (∣ ([], shows, tt) ∣₁, tt)
+    record { followed = ∣ ([], shows, tt) ∣₁ }

@@ -12,4 +12,4 @@ invariant_of-self c =
     let call = tariff c.args.grid c.args.fen in
     let after = shown_of d.posted d.entered c.set_tariff.new.self d.state d.ledger in
     let shows : after ≡ turn call (shown d) = search rules in
-    (led_on (shown d) after d.state d.state call d.followed shows (entry_stores after d.posted d.state c.args.grid c.in_ok-admit.ensures), tt)
+    record { followed = led_on (shown d) after d.state d.state call d.followed shows (entry_stores after d.posted d.state c.args.grid c.in_ok-admit.ensures) }
