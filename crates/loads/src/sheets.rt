@@ -35,9 +35,9 @@ fn admit(day: &RunningDay) -> Result<(), MarketRefusal>
 
 // Sets every limit of grids 0 to 15 to the most, so that none is left from the sheet before.
 fn open_limits<S: Screen + NodeLimits>(screen: &mut S)
-    ensures set { settings screen.new ≡ opened_to (layers screen.old) (nodes screen.old) grid_count (settings screen.old) }
-    ensures shape { (nodes screen.new ≡ nodes screen.old) × (layers screen.new ≡ layers screen.old) }
-    ensures opened { 0 < nodes screen.old → ontop screen.new ≡ fresh screen.new }
+    ensures set { S.settings screen.new ≡ opened_to (S.layers screen.old) (S.nodes screen.old) grid_count (S.settings screen.old) }
+    ensures shape { (S.nodes screen.new ≡ S.nodes screen.old) × (S.layers screen.new ≡ S.layers screen.old) }
+    ensures opened { 0 < S.nodes screen.old → S.ontop screen.new ≡ S.fresh screen.new }
 {
     for node in 0..GRIDS {
         let _ = screen.set_limit(node, MAX_LIMIT);
@@ -51,9 +51,9 @@ fn load_unit<S: Screen + NodeLimits>(
     offer: &RawOffer,
     position: u32,
 ) -> Result<(), LoadFault>
-    ensures load { recorded (layers screen.old) (nodes screen.old) position (unit offer.now) (shown day.old, settings screen.old) ≡ ((shown day.new, settings screen.new), fault_of result) }
-    ensures shape { (nodes screen.new ≡ nodes screen.old) × (layers screen.new ≡ layers screen.old) }
-    ensures opened { ontop screen.old ≡ fresh screen.old → ontop screen.new ≡ fresh screen.new }
+    ensures load { recorded (S.layers screen.old) (S.nodes screen.old) position (unit offer.now) (shown day.old, S.settings screen.old) ≡ ((shown day.new, S.settings screen.new), fault_of result) }
+    ensures shape { (S.nodes screen.new ≡ S.nodes screen.old) × (S.layers screen.new ≡ S.layers screen.old) }
+    ensures opened { S.ontop screen.old ≡ S.fresh screen.old → S.ontop screen.new ≡ S.fresh screen.new }
 {
     market_at(day.offer(offer), position)?;
     screen_at(screen.hang(offer.unit, offer.grid), position)?;
@@ -74,9 +74,9 @@ fn load_limit<S: Screen + NodeLimits>(
     entry: LimitRecord,
     position: u32,
 ) -> Result<(), LoadFault>
-    ensures load { (v : View) → recorded (layers screen.old) (nodes screen.old) position (limit entry) (v, settings screen.old) ≡ ((v, settings screen.new), fault_of result) }
-    ensures shape { (nodes screen.new ≡ nodes screen.old) × (layers screen.new ≡ layers screen.old) }
-    ensures opened { ontop screen.old ≡ fresh screen.old → ontop screen.new ≡ fresh screen.new }
+    ensures load { (v : View) → recorded (S.layers screen.old) (S.nodes screen.old) position (limit entry) (v, S.settings screen.old) ≡ ((v, S.settings screen.new), fault_of result) }
+    ensures shape { (S.nodes screen.new ≡ S.nodes screen.old) × (S.layers screen.new ≡ S.layers screen.old) }
+    ensures opened { S.ontop screen.old ≡ S.fresh screen.old → S.ontop screen.new ≡ S.fresh screen.new }
 {
     screen_at(screen.set_limit(entry.grid, entry.limit), position)?;
     Ok(())
@@ -90,10 +90,10 @@ fn load_units<'a, S: Screen + NodeLimits>(
     end: u32,
 ) -> Result<&'a [u8], LoadFault>
     requires { unit_bytes * end ≤ length bytes.now }
-    ensures load { load_from (layers screen.old) (nodes screen.old) 0 (units_in end bytes.now) (shown day.old, settings screen.old) ≡ ((shown day.new, settings screen.new), fault_of result) }
+    ensures load { load_from (S.layers screen.old) (S.nodes screen.old) 0 (units_in end bytes.now) (shown day.old, S.settings screen.old) ≡ ((shown day.new, S.settings screen.new), fault_of result) }
     ensures behind { IfOk result (λ rest. rest.now ≡ drop (unit_bytes * end) bytes.now) }
-    ensures shape { (nodes screen.new ≡ nodes screen.old) × (layers screen.new ≡ layers screen.old) }
-    ensures opened { ontop screen.old ≡ fresh screen.old → ontop screen.new ≡ fresh screen.new }
+    ensures shape { (S.nodes screen.new ≡ S.nodes screen.old) × (S.layers screen.new ≡ S.layers screen.old) }
+    ensures opened { S.ontop screen.old ≡ S.fresh screen.old → S.ontop screen.new ≡ S.fresh screen.new }
 {
     let mut rest = bytes;
     for position in 0..end {
@@ -136,9 +136,9 @@ fn load_limits<S: Screen + NodeLimits>(
     end: u32,
 ) -> Result<(), LoadFault>
     requires { limit_bytes * (end - first) ≤ length bytes.now }
-    ensures load { (v : View) → load_from (layers screen.old) (nodes screen.old) first (limits_in (end - first) bytes.now) (v, settings screen.old) ≡ ((v, settings screen.new), fault_of result) }
-    ensures shape { (nodes screen.new ≡ nodes screen.old) × (layers screen.new ≡ layers screen.old) }
-    ensures opened { ontop screen.old ≡ fresh screen.old → ontop screen.new ≡ fresh screen.new }
+    ensures load { (v : View) → load_from (S.layers screen.old) (S.nodes screen.old) first (limits_in (end - first) bytes.now) (v, S.settings screen.old) ≡ ((v, S.settings screen.new), fault_of result) }
+    ensures shape { (S.nodes screen.new ≡ S.nodes screen.old) × (S.layers screen.new ≡ S.layers screen.old) }
+    ensures opened { S.ontop screen.old ≡ S.fresh screen.old → S.ontop screen.new ≡ S.fresh screen.new }
 {
     let mut rest = bytes;
     for position in first..end {
@@ -158,11 +158,11 @@ pub fn load<S: Screen + NodeLimits>(
     screen: &mut S,
     bytes: &[u8],
 ) -> Result<(), LoadFault>
-    ensures load { loaded (layers screen.old) (nodes screen.old) bytes.now (shown day.old, settings screen.old) ≡ ((shown day.new, settings screen.new), fault_of result) }
+    ensures load { loaded (S.layers screen.old) (S.nodes screen.old) bytes.now (shown day.old, S.settings screen.old) ≡ ((shown day.new, S.settings screen.new), fault_of result) }
     ensures calls { Led (shown day.old) (shown day.new) }
-    ensures shape { (nodes screen.new ≡ nodes screen.old) × (layers screen.new ≡ layers screen.old) }
+    ensures shape { (S.nodes screen.new ≡ S.nodes screen.old) × (S.layers screen.new ≡ S.layers screen.old) }
     ensures declined { (e : Refusal) → first_refusal (shown day.old) bytes.now ≡ Some e → screen.new ≡ screen.old }
-    ensures opened { first_refusal (shown day.old) bytes.now ≡ None → 0 < nodes screen.old → ontop screen.new ≡ fresh screen.new }
+    ensures opened { first_refusal (shown day.old) bytes.now ≡ None → 0 < S.nodes screen.old → S.ontop screen.new ≡ S.fresh screen.new }
 {
     admit(day)?;
     let (header, records) = checked(bytes, u16::from(day.points_posted()) + 1)?;
