@@ -5,4 +5,4 @@ use Rattle.desk.proofs.wanted.Goals as goal
 pub returns : goal.returns
 returns c =
     let s = c.args.window.now in
-    record { goal = c.from.ensures ∙ c.from_le_bytes.ensures ∙ sym (needed_stated s (search rules)); decides = window_decides s }
+    record { need = c.from.ensures ∙ c.from_le_bytes.ensures ∙ sym (needed_stated s (search rules)); decides = window_decides s }

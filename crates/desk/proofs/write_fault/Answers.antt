@@ -11,10 +11,10 @@ use Rattle.desk.proofs.write_fault.Goals as goal
 pub returns-in-Some : goal.returns-in-Some
 returns-in-Some c =
     let e = c.args.fault in
-    let a = c.from_number.result in
+    let a = c.from-number.result in
     let b = c.from-layer.result in
     let p = c.from-position.result in
-    let number : a ≡ (refusal_in e).number = c.from_number.ensures ∙ ap (λ (r : Refusal). r.number) c.refusal-refusal.ensures in
+    let number : a ≡ (refusal_in e).number = c.from-number.ensures ∙ ap (λ (r : Refusal). r.number) c.refusal-refusal.ensures in
     let layer : b ≡ (refusal_in e).layer = c.from-layer.ensures ∙ ap (λ (r : Refusal). r.layer) c.refusal-refusal.ensures in
     let position : p ≡ position_in e = c.from-position.ensures ∙ c.position.ensures in
     let line = line_of 69 (a ∷ b ∷ p ∷ []) in
@@ -28,7 +28,7 @@ returns-in-Some c =
 pub returns-in-None : goal.returns-in-None
 returns-in-None c =
     let e = c.args.fault in
-    let a = c.from_number.result in
+    let a = c.from-number.result in
     let b = c.from-layer.result in
     let p = c.from-position.result in
     let line = line_of 69 (a ∷ b ∷ p ∷ []) in
