@@ -1,5 +1,5 @@
 -- What a clear makes of a day.
-use Rattle.std.proofs.Common.{◌≡◌, ℕ, ◌/◌, ◌<◌, ◌≤◌, true, get_or, Some, None, Option, sym, refl, ap, ◌∙◌, subst, arith}
+use Rattle.std.proofs.Common.{◌≡◌, ℕ, ◌/◌, ◌<◌, get_or, Some, None, Option, sym, refl, ap, ◌∙◌, subst, arith}
 use Rattle.lawful.specs.Awards.{AwardSet}
 use Rattle.lawful.specs.Lawful.{Lawful}
 use Rattle.market.specs.declared.entries.UnitOffer.{UnitOffer}
@@ -8,9 +8,9 @@ use Rattle.outcome.specs.Laws.{SoundSums}
 use Rattle.outcome.specs.Outcome.{Outcome, outcome}
 use Rattle.outcome.specs.View.{figure_of}
 use Rattle.outcome.proofs.Worthy.{clearing_is_worthy}
-use Rattle.clearing.specs.Declaration.{SegmentOf, Declares}
+use Rattle.clearing.specs.Declaration.{Declares}
 use Rattle.clearing.specs.declared.points.Cleared.{Cleared}
-use Rattle.book.specs.Views.{View, Declaration, declared, entries_in}
+use Rattle.book.specs.Views.{declared, entries_in}
 use Rattle.book.specs.Promise.{DeclaredWell}
 use Rattle.book.proofs.EntriesRanged.{class_number_small}
 use Rattle.book.proofs.SameOutcome.{outcome_same, some_bids_same}

@@ -1,5 +1,5 @@
 -- The tables of a clearing declare exactly what clearing yields.
-use Rattle.std.proofs.Common.{◌≡◌, ℕ, ◌<◌, ◌≤◌, true, false, cond, ltb, length, get_or, sym, refl, ap, ◌∙◌, inl, inr, arith}
+use Rattle.std.proofs.Common.{◌≡◌, ℕ, ◌<◌, ◌≤◌, true, false, ltb, length, get_or, sym, refl, ap, ◌∙◌, inl, inr, arith}
 use mathlib.Core.Path.{fun_ext}
 use lib.ListN.{get_or-replicate}
 use Rattle.std.proofs.lemmas.List.{get_or-take}
@@ -12,7 +12,7 @@ use Rattle.outcome.proofs.Bids.{bid_le}
 use Rattle.clearing.specs.Declaration.{SegmentOf, Declares, blank_segment}
 use Rattle.clearing.specs.declared.points.Segment.{Segment}
 use Rattle.clearing.specs.declared.points.Cleared.{Cleared}
-use Rattle.book.specs.Views.{Declaration, declared}
+use Rattle.book.specs.Views.{declared}
 use Rattle.book.proofs.Outside.{got_outside, share_outside}
 use Rattle.day.specs.Shown.{among_grids, segment_at, segments_of, declaration_of}
 use Rattle.day.proofs.SegmentRows.{row_at, Rows, declared_rows, row_count, no_row, segment_at_row}

@@ -1,6 +1,6 @@
 -- What a post can rely on, and what it makes of a day.
 use mathlib.Core.Logic.{∥∥₁_elim}
-use Rattle.std.proofs.Common.{◌≡◌, ℕ, suc, ◌+◌, ◌<◌, ◌≤◌, false, length, None, Option, sym, refl, ap, ◌∙◌, arith, length-take}
+use Rattle.std.proofs.Common.{◌≡◌, ℕ, suc, ◌+◌, ◌<◌, false, None, sym, refl, ap, ◌∙◌, arith, length-take}
 use native.Mathlib.Bridge.{le_prop}
 use native.Mathlib.Nat.{ℕ_set}
 use Rattle.outcome.specs.Outcome.{outcome}
@@ -10,7 +10,7 @@ use Rattle.book.specs.Calls.{post}
 use Rattle.book.specs.Histories.{after_post, turn}
 use Rattle.book.specs.Money.{posted_money}
 use Rattle.book.specs.Tables.{is_cleared, gate_rows}
-use Rattle.book.specs.Views.{View, entering, cleared, entries_in}
+use Rattle.book.specs.Views.{entering, cleared, entries_in}
 use Rattle.book.proofs.MoneyBounds.{postable}
 use Rattle.day.specs.Day.{RisingRows}
 use Rattle.day.specs.Followed.{Followed}

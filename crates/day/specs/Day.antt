@@ -6,7 +6,7 @@ use Rattle.lawful.specs.Lawful.{Lawful}
 use Rattle.market.specs.Maxima.{grid_count, place_count, max_price}
 use Rattle.market.specs.Refusals.{refusal_of}
 use Rattle.market.specs.Rows.{Row, row}
-use Rattle.outcome.specs.Entries.{Entries, some_bids}
+use Rattle.outcome.specs.Entries.{some_bids}
 use Rattle.market.specs.declared.refusals.Refusal.{Refusal}
 use Rattle.book.specs.Calls.{Call, clear}
 use Rattle.book.specs.Tables.{refusal}
@@ -14,7 +14,7 @@ use Rattle.book.specs.Histories.{history, turn}
 use Rattle.book.specs.Money.{charge_of, receipt_of, wires_of, branch_of}
 use Rattle.book.specs.Posts.{over_posts}
 use Rattle.book.specs.Promise.{KeptThroughout, receipts}
-use Rattle.book.specs.Views.{View, Stage, entering, cleared, Declaration, Money, entries_in}
+use Rattle.book.specs.Views.{View, Stage, entering, cleared, Money, entries_in}
 use Rattle.clearing.specs.Declaration.{blank_segment}
 use Rattle.clearing.specs.declared.points.Segment.{Segment}
 use Rattle.clearing.specs.declared.points.Cleared.{Cleared}

@@ -1,5 +1,5 @@
 -- Every day was led to by a list of calls, and stores what its clearing declares.
-use Rattle.std.specs.Prelude.{◌≡◌, ℕ, suc, List}
+use Rattle.std.specs.Prelude.{◌≡◌, suc, List}
 use Rattle.lawful.specs.Awards.{AwardSet}
 use Rattle.lawful.specs.Lawful.{Lawful}
 use Rattle.market.specs.Maxima.{place_count, max_price}

@@ -2,7 +2,6 @@
 use Rattle.std.specs.Prelude.{◌≡◌, ℕ, ◌≤◌}
 use Rattle.market.specs.Maxima.{grid_count}
 use Rattle.clearing.specs.declared.points.Cleared.{Cleared}
-use Rattle.outcome.specs.Entries.{Entries}
 use Rattle.book.specs.Views.{View, entries_in}
 use Rattle.book.specs.Money.{paid_at, charge_of}
 use Rattle.day.specs.Amounts.{charged_over, price_over}

@@ -1,5 +1,5 @@
 -- A sheet that is accepted: its header was taken, and its point still takes entries.
-use Rattle.std.proofs.Common.{◌≡◌, ℕ, suc, ◌+◌, ◌<◌, ◌≤◌, Bool, true, false, cond, not, ◌||◌, eqb, ltb, leb, List, [], ◌∷◌, length, Some, None, Option, sym, refl, ap, ◌∙◌, arith}
+use Rattle.std.proofs.Common.{◌≡◌, ℕ, suc, ◌+◌, ◌≤◌, false, cond, not, ◌||◌, eqb, ltb, leb, List, [], ◌∷◌, length, Some, None, Option, sym, refl, ap, ◌∙◌, arith}
 use Rattle.std.proofs.lemmas.Bool.{leb-false, ltb-false, or_parts}
 use Rattle.market.specs.Maxima.{grid_count}
 use Rattle.market.specs.Refusals.{refusal_of, sheet_refusal}
@@ -7,11 +7,11 @@ use Rattle.market.specs.Rows.{Row, row, topmost}
 use Rattle.market.specs.declared.refusals.Refusal.{Refusal}
 use Rattle.market.specs.declared.refusals.SheetRefusal.TheVariants.{TooShort, BadLayout, OtherPoint}
 use Rattle.book.specs.Calls as call
-use Rattle.book.specs.Views.{View, Stage}
+use Rattle.book.specs.Views.{View}
 use Rattle.book.specs.Tables.{is_cleared, refusal}
-use Rattle.book.specs.Histories.{unless, acted, turn}
+use Rattle.book.specs.Histories.{unless, acted}
 use Rattle.sheet.specs.Layout.{header_of, header_bytes, against_layout, sheet_rows}
-use Rattle.loads.specs.Loads.{Record, unit, bid, limit, Desk, Outcome, day_after, recorded, records_of, onward, load_from, opened_to, either, begun, day_rows, first_refusal, loaded}
+use Rattle.loads.specs.Loads.{Record, unit, bid, limit, Desk, Outcome, day_after, recorded, records_of, onward, load_from, opened_to, either, begun, day_rows, first_refusal}
 use Rattle.loads.proofs.Whole.{begins}
 use Rattle.desk.specs.Texts.{sheet_outcome}
 use Rattle.desk.specs.Steps.{Entering}

@@ -12,7 +12,7 @@ use Rattle.sheet.specs.Layout.{header_of, sheet_rows, strip_bytes}
 use Rattle.loads.specs.Loads as loads
 use Rattle.loads.specs.Loads.{Outcome, begun, either, load_from, opened_to, records_of}
 use Rattle.desk.specs.Texts.{read_of, goes_on, strip_text, sheet_text, sheet_desk, strip_outcome, sheet_outcome}
-use Rattle.desk.specs.Steps.{Decided, Worked, StripWorked, SheetWorked}
+use Rattle.desk.specs.Steps.{Decided, StripWorked, SheetWorked}
 use Rattle.desk.specs.declared.Desk.{Desk}
 use Rattle.desk.specs.declared.Step.{Step}
 use Rattle.desk.proofs.Windows.{window_decides}

@@ -1,12 +1,11 @@
 -- A day takes no more sheets than it has points, and one behind them that is declined.
-use Rattle.std.proofs.Common.{◌≡◌, ℕ, zero, suc, ◌+◌, ◌<◌, ◌≤◌, Bool, true, false, cond, eqb, List, [], ◌++◌, length, drop, Some, None, Option, sym, refl, ap, ◌∙◌, arith}
+use Rattle.std.proofs.Common.{◌≡◌, ℕ, zero, suc, ◌+◌, ◌<◌, ◌≤◌, cond, eqb, List, ◌++◌, length, drop, Some, None, Option, sym, refl, ap, ◌∙◌, arith}
 use Rattle.market.specs.Maxima.{grid_count, point_count}
 use Rattle.market.specs.declared.refusals.Refusal.{Refusal}
-use Rattle.book.specs.Views.{View, Stage, cleared}
 use Rattle.sheet.specs.Layout.{header_of}
-use Rattle.loads.specs.Loads.{Desk, Outcome, records_of, load_from, opened_to, loaded}
+use Rattle.loads.specs.Loads.{Desk, Outcome, records_of, load_from, opened_to}
 use Rattle.loads.proofs.Whole.{begins}
-use Rattle.desk.specs.Texts.{then_text, closing_text, sheet_text, sheet_desk, settled_desk, sheet_outcome, sheets_text, cleared_desk, posted_desk}
+use Rattle.desk.specs.Texts.{then_text, closing_text, sheet_text, sheet_desk, sheet_outcome, sheets_text, cleared_desk, posted_desk}
 use Rattle.desk.specs.Steps.{SheetsEnough}
 use Rattle.desk.proofs.Accepted.{accepted_first, first_entering, keeps_load}
 

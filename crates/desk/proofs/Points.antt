@@ -1,6 +1,6 @@
 -- A point that takes entries is cleared, listed and posted: no row declines one of these.
-use Rattle.std.proofs.Common.{◌≡◌, ℕ, ◌<◌, ◌≤◌, Bool, true, false, not, ◌&&◌, ltb, leb, Some, None, Option, sym, refl, ap, ◌∙◌, subst}
-use Rattle.std.proofs.lemmas.Bool.{lt-leb, le-ltb, and_left, and_right, not_from_true}
+use Rattle.std.proofs.Common.{◌≡◌, true, false, not, ◌&&◌, leb, None, Option, sym, refl, ap, ◌∙◌, subst}
+use Rattle.std.proofs.lemmas.Bool.{lt-leb, and_left, and_right, not_from_true}
 use Rattle.lawful.specs.Awards.{AwardSet}
 use Rattle.lawful.specs.Lawful.{Lawful}
 use Rattle.market.specs.Maxima.{place_count}

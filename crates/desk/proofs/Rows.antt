@@ -1,5 +1,5 @@
 -- Tables of refusals of which no row applies.
-use Rattle.std.proofs.Common.{◌≡◌, ℕ, Bool, true, false, cond, [], ◌∷◌, Some, None, Option, sym, refl, ap, ◌∙◌, arith}
+use Rattle.std.proofs.Common.{◌≡◌, Bool, true, false, cond, [], ◌∷◌, Some, None, Option, refl, ◌∙◌, arith}
 use Rattle.std.proofs.lemmas.Bool.{cond-false}
 use Rattle.market.specs.Rows.{row, topmost}
 use Rattle.market.specs.declared.refusals.Refusal.{Refusal}

@@ -1,5 +1,5 @@
 -- The bytes of a strip decide it, whatever comes behind them.
-use Rattle.std.proofs.Common.{◌≡◌, ℕ, zero, suc, ◌+◌, ◌*◌, ◌<◌, ◌≤◌, false, ltb, List, ◌++◌, length, get_or, Some, None, Option, sym, refl, ap, ◌∙◌, arith}
+use Rattle.std.proofs.Common.{◌≡◌, ℕ, zero, suc, ◌+◌, ◌*◌, ◌<◌, ◌≤◌, ltb, List, ◌++◌, length, get_or, Some, None, Option, sym, refl, ap, ◌∙◌, arith}
 use Rattle.std.proofs.lemmas.List.{get_or_append_left, length-append}
 use Rattle.std.proofs.lemmas.Bool.{cond-false, le-ltb}
 use Rattle.market.specs.Refusals.{sheet_refusal}
@@ -11,7 +11,7 @@ use Rattle.book.specs.Views.{View}
 use Rattle.book.specs.Tables.{refusal}
 use Rattle.book.specs.Histories.{turn}
 use Rattle.sheet.specs.Layout.{strip_bytes, strip_rows, tariff_of}
-use Rattle.loads.specs.Loads.{Desk, Outcome, stripped, strip_begun, tariff_on, tariffs_from}
+use Rattle.loads.specs.Loads.{Outcome, stripped, strip_begun, tariff_on, tariffs_from}
 use Rattle.desk.specs.Texts.{strip_outcome}
 use Rattle.desk.specs.Steps.{StripDecides}
 

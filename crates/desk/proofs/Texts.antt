@@ -1,5 +1,5 @@
 -- The text of a day, step by step.
-use Rattle.std.proofs.Common.{◌≡◌, ℕ, zero, suc, ◌+◌, ◌-◌, ◌<◌, ◌≤◌, Bool, true, false, cond, eqb, List, [], ◌∷◌, ◌++◌, length, take, drop, is_ok, IfOk, Some, None, Ok, Err, Option, Result, sym, refl, ap, ◌∙◌, inl, inr, append_assoc, arith}
+use Rattle.std.proofs.Common.{◌≡◌, ℕ, zero, suc, ◌+◌, ◌-◌, ◌<◌, Bool, true, false, cond, eqb, List, ◌++◌, length, take, drop, is_ok, IfOk, Some, None, Ok, Err, Option, Result, sym, refl, ap, ◌∙◌, inl, inr, append_assoc, arith}
 use Rattle.std.proofs.lemmas.List.{take_rest}
 use Rattle.std.proofs.lemmas.Bool.{cases_lt, cond-true, cond-false, eq-eqb, ne_eqb, eqb-false, true≢false, false≢true}
 use Rattle.market.specs.Maxima.{point_count}
@@ -7,7 +7,7 @@ use Rattle.market.specs.declared.refusals.Refusal.{Refusal}
 use Rattle.lines.specs.Lines.{written}
 use Rattle.lines.proofs.Written.{take_written}
 use Rattle.sheet.specs.Layout.{header_of, strip_bytes}
-use Rattle.loads.specs.Loads.{Desk, Outcome}
+use Rattle.loads.specs.Loads.{Desk}
 use Rattle.desk.specs.Texts.{goes_on, read_of, then_text, closing_text, strip_text, sheet_text, sheet_desk, strip_outcome, sheet_outcome, sheets_text, input_text}
 
 -- The bytes that were written stand at the start of the buffer.

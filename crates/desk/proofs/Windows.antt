@@ -1,5 +1,5 @@
 -- A window that has the bytes of the sheet at its start decides the sheet, whatever comes behind it.
-use Rattle.std.proofs.Common.{◌≡◌, ℕ, ◌+◌, ◌-◌, ◌*◌, ◌<◌, ◌≤◌, Bool, true, false, cond, not, ◌||◌, eqb, ltb, List, [], ◌∷◌, ◌++◌, length, take, drop, Some, None, Option, sym, refl, ap, ◌∙◌, inl, inr, arith}
+use Rattle.std.proofs.Common.{◌≡◌, ℕ, ◌+◌, ◌-◌, ◌*◌, ◌≤◌, Bool, true, false, not, ◌||◌, eqb, ltb, List, [], ◌∷◌, ◌++◌, length, take, drop, Some, None, Option, sym, refl, ap, ◌∙◌, inl, inr, arith}
 use Rattle.std.proofs.lemmas.List.{take-take, drop-take, take_at, length-take-le, length-append}
 use Rattle.std.proofs.lemmas.Bool.{cases_lt, cond-true, cond-false, le-ltb, lt-ltb, or_from, not-false, eqb-true, true≢false}
 use Rattle.market.specs.Maxima.{grid_count, unit_count}
@@ -8,7 +8,7 @@ use Rattle.market.specs.Rows.{row, topmost}
 use Rattle.market.specs.declared.refusals.Refusal.{Refusal}
 use Rattle.market.specs.declared.refusals.SheetRefusal.TheVariants.{TooShort, BadLayout, OtherPoint}
 use Rattle.book.specs.Views.{View}
-use Rattle.sheet.specs.Layout.{header_of, header_bytes, against_layout, sheet_bytes, sheet_rows}
+use Rattle.sheet.specs.Layout.{header_of, against_layout, sheet_bytes, sheet_rows}
 use Rattle.sheet.specs.declared.header.Header.{Header}
 use Rattle.sheet.proofs.Fields.{header_by_fields}
 use Rattle.sheet.proofs.Within.{word16_within}
@@ -16,7 +16,7 @@ use Rattle.loads.specs.Loads.{Record, Desk, Outcome, units_in, bids_in, limits_i
 use Rattle.loads.proofs.Whole.{body, units_whole, bids_whole, limits_whole}
 use Rattle.desk.specs.Texts.{sheet_outcome, needed_bytes}
 use Rattle.desk.specs.Steps.{WindowDecides}
-use Rattle.desk.proofs.Accepted.{Laid, first_laid}
+use Rattle.desk.proofs.Accepted.{first_laid}
 
 -- The header is read from the first ten bytes.
 pub same_header : (s : List ℕ) (n : ℕ) → 10 ≤ n → header_of (take n s) ≡ header_of s

@@ -1,5 +1,5 @@
 -- What a step of the desk leaves, writes and answers.
-use Rattle.std.specs.Prelude.{◌≡◌, ℕ, suc, ◌+◌, ◌<◌, ◌≤◌, Bool, true, false, ◌⊎◌, List, ◌++◌, length, Option}
+use Rattle.std.specs.Prelude.{◌≡◌, ℕ, suc, ◌+◌, ◌<◌, ◌≤◌, true, false, ◌⊎◌, List, ◌++◌, length, Option}
 use Rattle.market.specs.Maxima.{point_count, listing_room}
 use Rattle.market.specs.declared.refusals.Refusal.{Refusal}
 use Rattle.book.specs.Calls.{Call}

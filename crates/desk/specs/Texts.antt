@@ -5,7 +5,7 @@ use Rattle.market.specs.Maxima.{grid_count, unit_count, max_limit, point_count}
 use Rattle.market.specs.declared.refusals.Refusal.{Refusal}
 use Rattle.screen.specs.Meaning.{Settings}
 use Rattle.outcome.specs.Outcome.{outcome}
-use Rattle.book.specs.Views.{View, cleared, declared, empty_day, entries_in}
+use Rattle.book.specs.Views.{cleared, declared, empty_day, entries_in}
 use Rattle.book.specs.Histories.{with_stage, after_post}
 use Rattle.grids.specs.ByGrid.{by_grid}
 use Rattle.lines.specs.Lines.{line_of}

@@ -1,5 +1,5 @@
 -- The limits opened one after the other.
-use Rattle.std.proofs.Common.{◌≡◌, ℕ, zero, suc, ◌+◌, ◌<◌, ◌≤◌, true, false, is_ok, Ok, Err, Option, Result, sym, refl, ap, ◌∙◌, arith}
+use Rattle.std.proofs.Common.{◌≡◌, ℕ, zero, suc, ◌+◌, ◌<◌, true, false, is_ok, Ok, Err, Option, Result, sym, refl, ap, ◌∙◌, arith}
 use Rattle.lawful.specs.Awards.{AwardSet}
 use Rattle.market.specs.Maxima.{max_limit}
 use Rattle.market.specs.Rows.{topmost}

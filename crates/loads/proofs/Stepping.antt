@@ -1,7 +1,6 @@
 -- A load goes on behind a record that is accepted, and ends at one that is declined.
-use Rattle.std.proofs.Common.{◌≡◌, ℕ, zero, suc, ◌+◌, ◌-◌, ◌*◌, ◌<◌, ◌≤◌, List, [], ◌∷◌, ◌++◌, length, drop, Some, None, Option, sym, refl, ap, ◌∙◌, arith}
+use Rattle.std.proofs.Common.{◌≡◌, ℕ, suc, ◌+◌, ◌-◌, ◌<◌, ◌≤◌, List, [], ◌∷◌, length, drop, None, sym, ap, ◌∙◌, arith}
 use Rattle.std.proofs.lemmas.List.{drop-drop, length-drop}
-use Rattle.market.specs.declared.refusals.Refusal.{Refusal}
 use Rattle.market.specs.declared.entries.RawOffer.{RawOffer}
 use Rattle.sheet.specs.declared.records.BidRecord.{BidRecord}
 use Rattle.sheet.specs.declared.records.LimitRecord.{LimitRecord}

@@ -1,5 +1,5 @@
 -- The records of a whole sheet, loaded part by part.
-use Rattle.std.proofs.Common.{◌≡◌, ℕ, zero, suc, ◌+◌, ◌-◌, ◌*◌, ◌<◌, ◌≤◌, min, List, [], ◌∷◌, ◌++◌, length, take, drop, Some, None, Option, sym, refl, ap, ◌∙◌, arith}
+use Rattle.std.proofs.Common.{◌≡◌, ℕ, zero, suc, ◌+◌, ◌-◌, ◌*◌, ◌≤◌, min, List, [], ◌∷◌, ◌++◌, length, take, drop, Some, None, Option, sym, refl, ap, ◌∙◌, arith}
 use Rattle.std.proofs.lemmas.List.{drop-drop, length-take}
 use Rattle.market.specs.Maxima.{grid_count}
 use Rattle.market.specs.Rows.{topmost}
@@ -11,7 +11,6 @@ use Rattle.book.specs.Calls.{Call}
 use Rattle.book.specs.Views.{View}
 use Rattle.book.specs.Histories.{turn}
 use Rattle.sheet.specs.Layout.{header_of, header_bytes, unit_of, bid_of, limit_of, sheet_rows}
-use Rattle.sheet.specs.declared.header.Header.{Header}
 use Rattle.sheet.specs.declared.records.BidRecord.{BidRecord}
 use Rattle.sheet.specs.declared.records.LimitRecord.{LimitRecord}
 use Rattle.sheet.proofs.Within.{kth_unit, kth_bid, kth_limit}

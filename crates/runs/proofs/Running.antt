@@ -1,5 +1,5 @@
 -- A day with its first calls made.
-use Rattle.std.proofs.Common.{◌≡◌, ℕ, ◌+◌, ◌<◌, ◌≤◌, ◌≢◌, List, [], ◌∷◌, ◌++◌, reverse, length, get_or, take, set, vec_items, sym, refl, ap, ◌∙◌, subst, arith, below_more}
+use Rattle.std.proofs.Common.{◌≡◌, ℕ, ◌+◌, ◌<◌, ◌≤◌, ◌≢◌, List, [], ◌∷◌, ◌++◌, reverse, length, get_or, set, vec_items, sym, refl, ap, ◌∙◌, subst, arith, below_more}
 use mathlib.Core.Path.{subst⁻¹}
 use Rattle.std.proofs.lemmas.List.{take_all, length-map, length-set, length_push, get_or_push, get_or_append_left, get_or-set_same, get_or-set_other, get_or-map, get_or_default}
 use Rattle.market.specs.Entries.{market_answer}

@@ -1,4 +1,4 @@
-use Rattle.std.proofs.Common.{sym, ◌∙◌, arith, rules}
+use Rattle.std.proofs.Common.{sym, ◌∙◌, rules}
 use Rattle.desk.proofs.Windows.{needed_stated, window_decides}
 use Rattle.desk.proofs.wanted.Goals as goal
 

@@ -1,4 +1,4 @@
-use Rattle.std.proofs.Common.{◌≡◌, [], ◌∷◌, length, Some, None, sym, ap, ◌∙◌, arith, rules}
+use Rattle.std.proofs.Common.{◌≡◌, [], ◌∷◌, length, Some, None, sym, ap, ◌∙◌, arith}
 use Rattle.market.specs.declared.refusals.Refusal.{Refusal}
 use Rattle.lines.specs.Lines.{line_of}
 use Rattle.listings.proofs.Texts.{three_long}

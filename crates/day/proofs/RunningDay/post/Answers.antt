@@ -1,4 +1,4 @@
-use Rattle.std.proofs.Common.{◌≡◌, ◌+◌, subst, rules}
+use Rattle.std.proofs.Common.{◌≡◌, ◌+◌, subst}
 use Rattle.book.specs.Calls.{post}
 use Rattle.book.specs.Histories.{turn}
 use Rattle.book.specs.Tables.{is_cleared}

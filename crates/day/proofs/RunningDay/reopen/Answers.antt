@@ -1,4 +1,4 @@
-use Rattle.std.proofs.Common.{sym, rules}
+use Rattle.std.proofs.Common.{sym}
 use Rattle.book.specs.Calls.{reopen}
 use Rattle.day.specs.Day.{shown}
 use Rattle.day.specs.declared.state.PointState.TheVariants.{Entering}

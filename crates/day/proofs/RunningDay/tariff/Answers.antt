@@ -1,4 +1,4 @@
-use Rattle.std.proofs.Common.{◌≡◌, ◌+◌, rules}
+use Rattle.std.proofs.Common.{◌≡◌, rules}
 use Rattle.book.specs.Calls.{tariff}
 use Rattle.book.specs.Histories.{turn}
 use Rattle.day.specs.Shown.{shown_of}

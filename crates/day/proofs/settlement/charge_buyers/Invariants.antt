@@ -1,4 +1,4 @@
-use Rattle.std.proofs.Common.{◌≡◌, ℕ, ◌<◌, ◌≤◌}
+use Rattle.std.proofs.Common.{◌≡◌}
 use Rattle.day.specs.Amounts.{charged_over}
 use Rattle.day.specs.Shown.{account_at}
 use Rattle.day.proofs.Raised.{Raised}

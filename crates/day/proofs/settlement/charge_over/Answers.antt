@@ -1,4 +1,4 @@
-use Rattle.std.proofs.Common.{◌≡◌, ◌+◌, [], ap, ◌∙◌, arith}
+use Rattle.std.proofs.Common.{◌+◌, [], ap, ◌∙◌, arith}
 use Rattle.clearing.specs.declared.points.Segment.{Segment}
 use Rattle.std.proofs.lemmas.List.{take_all}
 use Rattle.day.specs.Amounts.{charged_over}

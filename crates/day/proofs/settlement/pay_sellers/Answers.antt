@@ -1,9 +1,7 @@
 use Rattle.std.proofs.Common.{◌≡◌, ◌+◌, ◌-◌, length, take, sym, refl, ◌∙◌, subst, arith, rules}
 use Rattle.std.proofs.lemmas.List.{get_or_past}
-use Rattle.outcome.specs.Outcome.{outcome}
-use Rattle.book.specs.Views.{entries_in}
 use Rattle.day.specs.Posting.{posting}
-use Rattle.day.specs.Shown.{account_at, declaration_of, point_of}
+use Rattle.day.specs.Shown.{account_at, declaration_of}
 use Rattle.day.specs.declared.ledger.Ledger.{Ledger}
 use Rattle.day.proofs.SegmentRows.{whole_rows}
 use Rattle.day.proofs.Postings.{Paid, paid_none, paid_nothing, paid_all, unoffered_none, offered_covered, offered_fits, offered_paid}

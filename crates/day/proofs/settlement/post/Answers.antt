@@ -1,4 +1,4 @@
-use Rattle.std.proofs.Common.{◌≡◌, ℕ, ◌-◌, take, ap, ◌∙◌, arith, rules}
+use Rattle.std.proofs.Common.{◌≡◌, ℕ, ◌-◌, take, ap, ◌∙◌, arith}
 use Rattle.book.specs.Money.{charge_of}
 use Rattle.clearing.specs.declared.points.Cleared.{Cleared}
 use Rattle.day.specs.Amounts.{charged_over}

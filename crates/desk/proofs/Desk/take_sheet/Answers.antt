@@ -1,4 +1,4 @@
-use Rattle.std.proofs.Common.{ℕ, true, false, Some, None, refl, ◌∙◌, arith, rules}
+use Rattle.std.proofs.Common.{ℕ, true, false, Some, None, refl, ◌∙◌, arith}
 use Rattle.market.specs.declared.refusals.Refusal.{Refusal}
 use Rattle.day.specs.Day.{shown}
 use Rattle.grids.specs.GridSets.{settings_of}

@@ -1,10 +1,8 @@
-use Rattle.std.proofs.Common.{ℕ, true, false, Some, None, refl, ◌∙◌, arith, rules}
+use Rattle.std.proofs.Common.{ℕ, true, false, Some, None, refl}
 use Rattle.market.specs.declared.refusals.Refusal.{Refusal}
 use Rattle.day.specs.Day.{shown}
 use Rattle.grids.specs.GridSets.{settings_of}
 use Rattle.loads.specs.Faults.{refusal_in, position_in}
-use Rattle.loads.specs.Loads.{Desk}
-use Rattle.desk.specs.Steps.{desk_of}
 use Rattle.desk.proofs.Working.{strip_tells, strip_long, strip_accepted, strip_declined}
 use Rattle.desk.proofs.Desk.take_strip.Goals as goal
 

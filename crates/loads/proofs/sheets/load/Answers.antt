@@ -1,4 +1,4 @@
-use Rattle.std.proofs.Common.{◌≡◌, ℕ, ◌+◌, ◌-◌, ◌*◌, ◌<◌, ◌≤◌, length, drop, Some, None, sym, refl, ap, ◌∙◌, arith, rules}
+use Rattle.std.proofs.Common.{◌≡◌, ℕ, ◌+◌, ◌-◌, ◌*◌, ◌≤◌, length, drop, Some, None, sym, refl, ap, ◌∙◌, arith}
 use Rattle.std.proofs.lemmas.List.{length-drop}
 use Rattle.std.proofs.lemmas.Result.{err_from_is_err_and}
 use Rattle.market.specs.Rows.{topmost}
@@ -6,7 +6,7 @@ use Rattle.market.specs.Maxima.{grid_count}
 use Rattle.day.specs.Day.{shown}
 use Rattle.sheet.specs.Layout.{header_of, sheet_rows}
 use Rattle.sheet.specs.declared.header.Header.{Header}
-use Rattle.loads.specs.Loads.{Desk, units_in, bids_in, limits_in, first_refusal, opened_to}
+use Rattle.loads.specs.Loads.{Desk, units_in, limits_in, first_refusal, opened_to}
 use Rattle.loads.specs.Faults.{refusal_in, position_in, fault_of}
 use Rattle.loads.proofs.Whole.{none_declines, none_some, within_body, carried, led_begun, units_ended, bids_ended, limits_last}
 use Rattle.loads.proofs.sheets.load.Goals as goal

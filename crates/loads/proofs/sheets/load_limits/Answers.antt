@@ -1,6 +1,5 @@
-use Rattle.std.proofs.Common.{◌≡◌, ℕ, ◌+◌, ◌-◌, ◌*◌, ◌<◌, ◌≤◌, length, drop, sym, refl, ap, ◌∙◌, arith, rules}
+use Rattle.std.proofs.Common.{◌+◌, ◌-◌, ◌*◌, ◌≤◌, ◌∙◌, arith}
 use Rattle.std.proofs.lemmas.Result.{err_from_is_err_and}
-use Rattle.day.specs.Day.{shown}
 use Rattle.loads.specs.Loads.{limit, limits_in, load_from}
 use Rattle.loads.proofs.Stepping.{first_tells, limits_split, limits_none, behind_more, all_loaded, too_short}
 use Rattle.loads.proofs.sheets.load_limits.Goals as goal

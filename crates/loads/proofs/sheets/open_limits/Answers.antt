@@ -1,7 +1,4 @@
-use Rattle.std.proofs.Common.{◌≡◌, ◌<◌, false, is_ok, sym, ap, ◌∙◌, arith, rules}
-use Rattle.market.specs.Maxima.{max_limit}
-use Rattle.market.specs.Rows.{topmost}
-use Rattle.screen.specs.Meaning.{limit_rows, answer_of}
+use Rattle.std.proofs.Common.{ap, ◌∙◌, arith}
 use Rattle.loads.proofs.Opening.{opened_more, still_open}
 use Rattle.loads.proofs.sheets.open_limits.Goals as goal
 

@@ -1,4 +1,4 @@
-use Rattle.std.proofs.Common.{◌≡◌, ℕ, ◌+◌, ◌-◌, ◌<◌, ◌≤◌, List, get_or, Some, None, Option, sym, refl, ap, ◌∙◌, arith, rules}
+use Rattle.std.proofs.Common.{◌≡◌, ℕ, ◌+◌, ◌-◌, List, get_or, Some, None, Option, sym, ap, ◌∙◌, arith}
 use Rattle.std.proofs.lemmas.Result.{err_from_is_err_and}
 use Rattle.market.specs.Entries.{market_answer}
 use Rattle.market.specs.Refusals.{market_refusal}
@@ -6,7 +6,7 @@ use Rattle.market.specs.declared.refusals.Refusal.{Refusal}
 use Rattle.day.specs.Day.{shown}
 use Rattle.sheet.proofs.Tariffs.{tariff_at_lem}
 use Rattle.loads.specs.Loads.{tariff_on, tariffs_from}
-use Rattle.loads.proofs.TariffTurns.{Came, next_tells, tariff_ends, fault_at, fault_at_lem, accepted, strip_begins, led_strip, all_set}
+use Rattle.loads.proofs.TariffTurns.{next_tells, tariff_ends, fault_at, fault_at_lem, accepted, strip_begins, led_strip, all_set}
 use Rattle.loads.proofs.strips.strip_onto.Goals as goal
 
 pub returns-in_err-market_at : goal.returns-in_err-market_at
