@@ -1,2 +1,3 @@
 pub mod Setters
 pub mod Shapes
+pub mod StackLaws

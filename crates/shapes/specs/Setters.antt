@@ -1,5 +1,5 @@
 -- What a setter leaves that a stack may have or not.
-use Rattle.std.specs.Prelude.{ℕ, Bool, true, false, is_ok, Some, None, Option, Result}
+use Rattle.std.specs.Prelude.{ℕ, Bool, false, is_ok, Some, None, Option, Result}
 use Rattle.market.specs.declared.refusals.Refusal.{Refusal}
 use Rattle.screen.specs.Meaning.{Settings, with_setting}
 

@@ -1,5 +1,5 @@
 -- What a stack means, by its shape: the layers over its base.
-use Rattle.std.specs.Prelude.{ℕ, suc, List, [], ◌∷◌, Some, None, Option}
+use Rattle.std.specs.Prelude.{ℕ, suc, [], ◌∷◌, Some, None, Option}
 use Rattle.lawful.specs.Awards.{AwardSet}
 use Rattle.screen.specs.Meaning.{Settings}
 use Rattle.screen.specs.declared.Screen.{Ghosts}

@@ -8,6 +8,7 @@ ghost use Rattle.market.specs.Rows.{topmost};
 ghost use Rattle.screen.specs.Meaning.{cap_rows, ceiling_rows, answer_of};
 ghost use Rattle.shapes.specs.Setters.{answer_at, was_set, with_setting_at};
 ghost use Rattle.shapes.specs.Shapes.{no_layer, caps_only, ceiling_only, caps_first, ceiling_first, shape_of, layered, base_of, before_base, caps_in, ceiling_in};
+ghost use Rattle.shapes.specs.StackLaws.{layered_fresh_lawful, layered_ontop_lawful, layered_decided};
 
 use layers::caps::CapLayer;
 use layers::ceiling::CeilingLayer;
@@ -108,6 +109,12 @@ impl<B: Screen> Screen for Layered<B> {
     ghost ontop = { (layered B.Screen).ontop };
 
     ghost settings = { (layered B.Screen).settings };
+
+    ghost fresh_lawful = { layered_fresh_lawful B.Screen.own B.Screen.fresh_lawful };
+
+    ghost ontop_lawful = { layered_ontop_lawful B.Screen.own B.Screen.ontop_lawful };
+
+    ghost decided = { layered_decided B.Screen.own B.Screen.decided };
 
     fn reset(&mut self) {
         match self {

@@ -1,5 +1,5 @@
 -- What a screen of any kind means: a stack over an open, a grid or a corridor base.
-use Rattle.std.specs.Prelude.{ℕ, suc, ◌+◌, List, [], ◌∷◌, Some, None, Option}
+use Rattle.std.specs.Prelude.{ℕ, suc, ◌+◌, [], ◌∷◌, Some, None, Option}
 use Rattle.std.specs.Option.{option_map}
 use Rattle.lawful.specs.Awards.{AwardSet}
 use Rattle.screen.specs.Meaning.{Settings}

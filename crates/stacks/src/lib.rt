@@ -7,6 +7,7 @@ ghost use Rattle.market.specs.Rows.{topmost};
 ghost use Rattle.screen.specs.Meaning.{limit_rows, hang_rows, parent_rows, cap_rows, ceiling_rows, answer_of};
 ghost use Rattle.shapes.specs.Setters.{answer_at, was_set, with_setting_at};
 ghost use Rattle.stacks.specs.Kinds.{kind_of, layers_of, any_of, nodes_of, limits_of, hangs_of, parents_of, caps_of, ceiling_of};
+ghost use Rattle.stacks.specs.KindLaws.{any_fresh_lawful, any_ontop_lawful, any_decided};
 
 use corridors::CorridorScreen;
 use grids::GridScreen;
@@ -29,8 +30,8 @@ pub type AnyScreen = AnyOf<OpenScreen, GridScreen, CorridorScreen>;
 impl<O: Screen, G: NodeLimits, C: NodeParents> AnyOf<O, G, C> {
     // Sets the limit of a grid or corridor. Declined with 4 where there is none of this number and with 5 above 6,000,000.
     pub fn set_limit(&mut self, node: u32, limit: u32) -> Option<Result<(), ScreenRefusal>>
-        ensures answer { option_map answer_of result ≡ answer_at (limits_of G.NodeLimits C.NodeLimits self.old) (topmost (limit_rows (nodes_of G.NodeLimits C.NodeLimits self.old) node limit)) }
-        ensures set { was_set result ≡ true → (any_of O.Screen G.Screen C.Screen).settings self.new ≡ with_setting_at ((any_of O.Screen G.Screen C.Screen).settings self.old) (limits_of G.NodeLimits C.NodeLimits self.old) node limit }
+        ensures answer { option_map answer_of result ≡ answer_at (limits_of G.NodeLimits.own C.NodeLimits.own self.old) (topmost (limit_rows (nodes_of G.NodeLimits.own C.NodeLimits.own self.old) node limit)) }
+        ensures set { was_set result ≡ true → (any_of O.Screen G.Screen C.Screen).settings self.new ≡ with_setting_at ((any_of O.Screen G.Screen C.Screen).settings self.old) (limits_of G.NodeLimits.own C.NodeLimits.own self.old) node limit }
         ensures opened { was_set result ≡ true → (any_of O.Screen G.Screen C.Screen).ontop self.new ≡ (any_of O.Screen G.Screen C.Screen).fresh self.new }
         ensures shape { (kind_of self.new ≡ kind_of self.old) × (layers_of self.new ≡ layers_of self.old) }
         ensures declined { was_set result ≡ false → self.new ≡ self.old }
@@ -44,8 +45,8 @@ impl<O: Screen, G: NodeLimits, C: NodeParents> AnyOf<O, G, C> {
 
     // Hangs a unit on a grid or corridor. Declined with 4 where there is no such unit, or else none such.
     pub fn hang(&mut self, unit: u32, node: u32) -> Option<Result<(), ScreenRefusal>>
-        ensures answer { option_map answer_of result ≡ answer_at (hangs_of G.NodeLimits C.NodeLimits self.old) (topmost (hang_rows (nodes_of G.NodeLimits C.NodeLimits self.old) unit node)) }
-        ensures set { was_set result ≡ true → (any_of O.Screen G.Screen C.Screen).settings self.new ≡ with_setting_at ((any_of O.Screen G.Screen C.Screen).settings self.old) (hangs_of G.NodeLimits C.NodeLimits self.old) unit node }
+        ensures answer { option_map answer_of result ≡ answer_at (hangs_of G.NodeLimits.own C.NodeLimits.own self.old) (topmost (hang_rows (nodes_of G.NodeLimits.own C.NodeLimits.own self.old) unit node)) }
+        ensures set { was_set result ≡ true → (any_of O.Screen G.Screen C.Screen).settings self.new ≡ with_setting_at ((any_of O.Screen G.Screen C.Screen).settings self.old) (hangs_of G.NodeLimits.own C.NodeLimits.own self.old) unit node }
         ensures opened { was_set result ≡ true → (any_of O.Screen G.Screen C.Screen).ontop self.new ≡ (any_of O.Screen G.Screen C.Screen).fresh self.new }
         ensures shape { (kind_of self.new ≡ kind_of self.old) × (layers_of self.new ≡ layers_of self.old) }
         ensures declined { was_set result ≡ false → self.new ≡ self.old }
@@ -59,8 +60,8 @@ impl<O: Screen, G: NodeLimits, C: NodeParents> AnyOf<O, G, C> {
 
     // Sets the parent of a corridor. Declined with 4 where there is no such corridor or parent, and with 16 where the parent is not lower.
     pub fn set_parent(&mut self, node: u32, parent: u32) -> Option<Result<(), ScreenRefusal>>
-        ensures answer { option_map answer_of result ≡ answer_at (parents_of C.NodeLimits self.old) (topmost (parent_rows (nodes_of G.NodeLimits C.NodeLimits self.old) node parent)) }
-        ensures set { was_set result ≡ true → (any_of O.Screen G.Screen C.Screen).settings self.new ≡ with_setting_at ((any_of O.Screen G.Screen C.Screen).settings self.old) (parents_of C.NodeLimits self.old) node parent }
+        ensures answer { option_map answer_of result ≡ answer_at (parents_of C.NodeLimits.own self.old) (topmost (parent_rows (nodes_of G.NodeLimits.own C.NodeLimits.own self.old) node parent)) }
+        ensures set { was_set result ≡ true → (any_of O.Screen G.Screen C.Screen).settings self.new ≡ with_setting_at ((any_of O.Screen G.Screen C.Screen).settings self.old) (parents_of C.NodeLimits.own self.old) node parent }
         ensures opened { was_set result ≡ true → (any_of O.Screen G.Screen C.Screen).ontop self.new ≡ (any_of O.Screen G.Screen C.Screen).fresh self.new }
         ensures shape { (kind_of self.new ≡ kind_of self.old) × (layers_of self.new ≡ layers_of self.old) }
         ensures declined { was_set result ≡ false → self.new ≡ self.old }
@@ -109,6 +110,12 @@ impl<O: Screen, G: Screen, C: Screen> Screen for AnyOf<O, G, C> {
     ghost ontop = { (any_of O.Screen G.Screen C.Screen).ontop };
 
     ghost settings = { (any_of O.Screen G.Screen C.Screen).settings };
+
+    ghost fresh_lawful = { any_fresh_lawful O.Screen.own G.Screen.own C.Screen.own O.Screen.fresh_lawful G.Screen.fresh_lawful C.Screen.fresh_lawful };
+
+    ghost ontop_lawful = { any_ontop_lawful O.Screen.own G.Screen.own C.Screen.own O.Screen.ontop_lawful G.Screen.ontop_lawful C.Screen.ontop_lawful };
+
+    ghost decided = { any_decided O.Screen.own G.Screen.own C.Screen.own O.Screen.decided G.Screen.decided C.Screen.decided };
 
     fn reset(&mut self) {
         match self {

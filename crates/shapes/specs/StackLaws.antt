@@ -1,6 +1,6 @@
 -- The laws of a screen, from a base up through the layers over it.
-use Rattle.std.proofs.Common.{◌≡◌, ℕ, false, eqb, List, [], ◌∷◌, get_or, drop, refl, ap, ap₂, arith}
-use Rattle.std.proofs.lemmas.Bool.Decides.{nat_tests}
+use Rattle.std.proofs.Common.{◌≡◌, ℕ, false, eqb, List, [], ◌∷◌, get_or, drop, refl, ap, ap₂}
+use Rattle.std.proofs.lemmas.Bool.{eqb-false}
 use Rattle.lawful.specs.Lawful.{Lawful}
 use Rattle.lawful.proofs.Cuts.{caps_keep_laws, total_limit_keeps_laws}
 use Rattle.screen.specs.Meaning.{Settings}
@@ -36,7 +36,7 @@ alike e = tables_behind e
 pub unlike : {X : Type 0} {s t : Settings} (k j : ℕ) → eqb k j ≡ false → (k ∷ []) ∷ s ≡ (j ∷ []) ∷ t → X
 unlike k j ne e =
     let same : k ≡ j = ap (λ (x : Settings). get_or (get_or x 0 []) 0 0) e in
-    absurd (let no : ⊥ = grind (arith, nat_tests, same, ne) in no)
+    absurd (eqb-false k j ne same)
 
 -- The fresh set of a stack is lawful where that of the base is.
 pub layered_fresh_lawful : {B : Type 0} (base : Ghosts B) → ((s : B) → Lawful 256 (base.fresh s)) → (s : Layered B) → Lawful 256 ((layered base).fresh s)
