@@ -33,9 +33,10 @@ fn print(rt: &HostRuntime, reply: Reply) -> anyhow::Result<()> {
 
 // Answers every line up to the end of the input, or until reading or writing fails. The day is closed in the end.
 fn run(rt: &HostRuntime) -> anyhow::Result<()> {
+    let input = BufReader::new(rt.alloc(), rt.stdin())?;
     let mut session = Session::start();
     let mut result = Ok(());
-    for line in BufReader::new(rt.alloc(), rt.stdin())?.split(rt.alloc(), b'\n') {
+    for line in input.split(rt.alloc(), b'\n') {
         let (next, said) = match line {
             Ok(line) => turn(rt, session, line.as_slice()),
             Err(error) => (session, Err(error.into())),
