@@ -1,4 +1,4 @@
-// The ranges and maxima of the market's figures, as the code compares with them, each stated once.
+// The ranges and maxima of the market's figures by name, for code to compare with.
 
 // Units are 0 to 63.
 pub const UNITS: u32 = 64;
