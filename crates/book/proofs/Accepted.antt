@@ -3,8 +3,12 @@ use Rattle.std.proofs.Common.{◌≡◌, ℕ, Bool, true, false, not, ◌&&◌, 
 use Rattle.std.proofs.lemmas.Bool.{cases_Bool, cond-true, cond-false}
 use Rattle.market.specs.Rows.{Row, topmost}
 use Rattle.book.specs.Views.{View}
-use Rattle.book.specs.Calls.{Call}
-use Rattle.book.specs.Tables.{is_cleared, wants_entering, state_rows, figure_rows, book_rows, refusal}
+use Rattle.book.specs.Calls.{Call, name_of}
+use Rattle.book.specs.Tables.{is_cleared, wants_entering, gate_rows, state_rows, figure_rows, book_rows, refusal}
+
+-- The rows of the gate, by what the day shows and the call, are the rows by the state of the day and the point.
+pub gate_rows_are_state_rows : (v : View) (c : Call) → gate_rows v.posted (is_cleared v.stage) (wants_entering c) (name_of c) ≡ state_rows v c
+gate_rows_are_state_rows v c = refl
 
 -- Where no row applies, the first one does not, nor any behind it.
 pub no_row : (r : Row) (rs : List Row) → topmost (r ∷ rs) ≡ None → (r.cause ≡ false) × (topmost rs ≡ None)

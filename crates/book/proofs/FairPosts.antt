@@ -12,7 +12,7 @@ use Rattle.outcome.specs.Entries.{Entries, some_bids}
 use Rattle.outcome.specs.Laws.{in_segment, SoundSegment, SoundSums}
 use Rattle.outcome.specs.Outcome.{Outcome, outcome}
 use Rattle.outcome.specs.View.{figure_of}
-use Rattle.outcome.proofs.Bids.{bid_le, out_of_segment}
+use Rattle.outcome.proofs.Bids.{bid_le}
 use Rattle.outcome.proofs.Sound.{segments_are_sound}
 use Rattle.outcome.proofs.Worthy.{clearing_is_worthy}
 use Rattle.book.specs.Views.{View, Stage, entering, cleared, declared, capacity_under, between_at, entries_in}
@@ -21,6 +21,7 @@ use Rattle.book.specs.Promise.{FairPost, StageWell, StageFair}
 use Rattle.book.proofs.Entered.{Entered}
 use Rattle.book.proofs.EntriesRanged.{entries_ranged}
 use Rattle.book.proofs.Products.{product_le, sum_times}
+use Rattle.book.proofs.PaidAt.{in_first_segment}
 
 -- Up to any bound, a place lands above each bid, or stands in the segment of one.
 pub lands_in_segment :
@@ -34,18 +35,11 @@ lands_in_segment e p (suc n) =
             | inl l ↦ inl (λ c below some. elim (cases_eq c n) [ inl same ↦ omega arith | inr other ↦ above c (omega arith) some ])
             | inr l ↦
                 elim (cases_Bool (some_bids e n)) [
-                  | inl some ↦ inr (n, omega arith, some, first_at e p n l above)
+                  | inl some ↦ inr (n, omega arith, some, in_first_segment e p n l above)
                   | inr none ↦ inl (λ c below some. elim (cases_eq c n) [ inl same ↦ absurd (both_ways (some_bids e n) none (rw same at some)) | inr other ↦ above c (omega arith) some ])
                 ]
           ]
     ]
-  where
-    first_at : (e : Entries) (p n : ℕ) → e.landed p ≤ n → ((c : ℕ) → c < n → some_bids e c ≡ true → c < e.landed p) → in_segment e n p ≡ true
-    first_at e p n l above =
-        elim (cases_Bool (in_segment e n p)) [
-          | inl h ↦ h
-          | inr h ↦ absurd (elim (out_of_segment e n p h) [ inl high ↦ omega arith | inr d ↦ omega (arith, d.3, above d.0 d.1 d.2) ])
-        ]
 
 -- At a place with capacity an offer stands, and its landed offer is the offer and what lies between.
 pub landed_is :

@@ -1,17 +1,25 @@
 #![tactic(auto)]
 
-// Prints a readable account of a day of one quarter hour, from declared figures through all calls of the day to the money of all parties.
+// Takes a day of one quarter hour through all its calls by `run`, and prints what came of each, to the money of all parties.
 
-mod calls;
-mod clearings;
-mod offers;
+mod entries;
+mod telling;
 
-// The account of the quarter hour, step by step.
+use runs::run;
+
+// The day, call by call.
 fn account(rt: &HostRuntime) -> anyhow::Result<()> {
-    println!(rt; "One quarter hour of the reserve market, from declared figures to money.")?;
-    println!(rt; "Quantities are tenths of a MW, prices fen per MWh, offers yuan per MWh.")?;
-    let offers = offers::declared(rt)?;
-    calls::take_through(rt, &offers)
+    println!(rt;
+        "A day of one quarter hour of the reserve market, call by call, to the money of all parties."
+    )?;
+    println!(rt; "Quantities are tenths of a MW, prices fen per MWh.")?;
+    println!(rt;
+        "It is cleared without a screen, and then with grid 1 limited to 1000 and a cap of 10 at place 30:"
+    )?;
+    let mut calls = entries::calls(rt)?;
+    let ran = run(rt.alloc(), calls.as_mut_slice())?;
+    telling::show_steps(rt, &calls, &ran.steps)?;
+    telling::show_money(rt, &ran.day)
 }
 
 fn main(rt: HostRuntime) -> anyhow::Result<()> {
