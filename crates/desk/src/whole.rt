@@ -99,3 +99,42 @@ pub fn clear_day(heap: Global, input: &[u8]) -> Result<Vec<u8>, AllocError>
     closed?;
     Ok(text)
 }
+
+#[cfg(test)]
+mod tests {
+    use super::clear_day;
+    use std::test::Fail;
+
+    // Tariffs of grid 1 and the branch; one sheet for point 1 with unit 0 on grid 1 and bids of grids 2 and 3.
+    const WORKED: [u8; 81] = [
+        0, 0, 244, 1, 0, 0, 0, 0, 0, 0, 0, 0, 0, 0, 0, 0, 0, 0, 0, 0, 0, 0, 0, 0, 0, 0, 0, 0, 0, 0,
+        0, 0, 44, 1, 47, 0, 1, 0, 2, 0, 0, 0, 1, 0, 0, 1, 1, 120, 0, 0, 0, 0, 0, 0, 0, 0, 0, 164,
+        1, 0, 0, 0, 0, 2, 100, 0, 0, 0, 248, 167, 0, 0, 3, 44, 1, 0, 0, 80, 195, 0, 0,
+    ];
+
+    // The same with grid 1 limited to 50.
+    const LIMITED: [u8; 86] = [
+        0, 0, 244, 1, 0, 0, 0, 0, 0, 0, 0, 0, 0, 0, 0, 0, 0, 0, 0, 0, 0, 0, 0, 0, 0, 0, 0, 0, 0, 0,
+        0, 0, 44, 1, 52, 0, 1, 0, 2, 0, 1, 0, 1, 0, 0, 1, 1, 120, 0, 0, 0, 0, 0, 0, 0, 0, 0, 164,
+        1, 0, 0, 0, 0, 2, 100, 0, 0, 0, 248, 167, 0, 0, 3, 44, 1, 0, 0, 80, 195, 0, 0, 1, 50, 0, 0,
+        0,
+    ];
+
+    #[test]
+    fn day_of_one_point(rt: HostRuntime) -> Result<(), Fail> {
+        let text = clear_day(rt.alloc(), &WORKED)?;
+        let wanted =
+            b"P 1 3\nS 43000 120 42800\nA 0 0 120\nB 2 30\nB 3 90\nC 2 32100 0\nC 3 96300 0\nU 0 126000 0\nW 1 1500 0\nR 900 0\n";
+        assert_eq!(rt; text.as_slice(), wanted.as_slice());
+        Ok(())
+    }
+
+    #[test]
+    fn day_with_its_seller_limited(rt: HostRuntime) -> Result<(), Fail> {
+        let text = clear_day(rt.alloc(), &LIMITED)?;
+        let wanted =
+            b"P 1 3\nS 43000 50 42800\nA 0 0 50\nB 2 12\nB 3 38\nC 2 12840 0\nC 3 40660 0\nU 0 52500 0\nW 1 625 0\nR 375 0\n";
+        assert_eq!(rt; text.as_slice(), wanted.as_slice());
+        Ok(())
+    }
+}
