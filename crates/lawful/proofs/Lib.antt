@@ -1,4 +1,5 @@
 pub mod Sums
+pub mod Lists
 pub mod Awards
 pub mod Rooms
 pub mod Cuts

@@ -16,11 +16,7 @@ pub fn total(award: &[u16; 256]) -> u32
     ensures classes { SumsByClassKeepLaws }
     ensures groups { NestedGroupsAreLawful }
 {
-    let mut sum: u32 = 0;
-    for q in award {
-        sum += u32::from(*q);
-    }
-    sum
+    award.iter().map(|q| u32::from(*q)).sum()
 }
 
 // What an award draws from the places that are marked.
@@ -29,6 +25,7 @@ pub fn drawn(award: &[u16; 256], from: &[bool; 256]) -> u32
     ensures value { result ≡ within 256 (λ p. slice_index_or from.now p false) (λ p. slice_index award.now p) }
     ensures most { FullIsMost }
 {
+    // As a chain over both tables zipped, its sum's bound and value stay unproved.
     let mut sum: u32 = 0;
     for (p, q) in award.iter().enumerate() {
         if from[p] {
@@ -44,6 +41,7 @@ pub fn cost_of(award: &[u16; 256], price: &[u32; 256]) -> u64
     ensures value { result ≡ cost 256 (λ p. slice_index price.now p) (λ p. slice_index award.now p) }
     ensures cheapest { FilledIsCheapest }
 {
+    // As a chain over both tables zipped, its sum's bound and value stay unproved.
     let mut sum: u64 = 0;
     for (p, q) in award.iter().enumerate() {
         sum += u64::from(*q) * u64::from(price[p]);

@@ -1,7 +1,8 @@
 -- The checks of figures and offers, one element after the other.
-use Rattle.std.proofs.Common.{◌≡◌, ℕ, zero, suc, ◌+◌, ◌-◌, ◌<◌, ◌≤◌, Bool, true, false, ◌&&◌, ◌||◌, eqb, ltb, leb, List, [], ◌∷◌, map, length, get_or, drop, Some, sym, refl, ap, ◌∙◌, inl, inr, arith}
-use Rattle.std.proofs.lemmas.List.{drop_more}
-use Rattle.std.proofs.lemmas.Bool.{lt-ltb, le-ltb, le-leb, lt-leb, eq-eqb, ne_eqb, or_parts, ltb-false, cases_Bool, cond-true, cond-false, eqb-true}
+use Rattle.std.proofs.Common.{◌≡◌, ℕ, zero, suc, ◌+◌, ◌<◌, ◌≤◌, Bool, true, false, ◌&&◌, ◌||◌, eqb, ltb, leb, List, [], ◌∷◌, map, length, get_or, take, drop, Some, MatchBool, sym, refl, ap, ◌∙◌, subst, inl, inr, arith}
+use Rattle.std.specs.List.{list_all}
+use Rattle.std.specs.List.Sorted.{IsNonDecreasing}
+use Rattle.std.proofs.lemmas.Bool.{le-leb, lt-leb, and_from, or_parts, ltb-false, cases_Bool, cond-true, cond-false, eqb-true}
 use Rattle.market.specs.Classes.{class_number, class_at, class_in, all_classes}
 use Rattle.market.specs.Bands.{figures_of}
 use Rattle.market.specs.Entries.{any_above, keeps_bands, figures_in, handed_over}
@@ -9,44 +10,56 @@ use Rattle.market.specs.declared.classes.Class.{Class}
 use Rattle.market.specs.declared.entries.RawOffer.{RawOffer}
 use Rattle.market.specs.declared.entries.UnitOffer.{UnitOffer}
 
-module _ (xs : List ℕ) (i : ℕ) (within : i < length xs) where
-  -- The figure at i is above the maximum.
-  pub above_here : (m : ℕ) → m < get_or xs i 0 → any_above m (drop i xs) ≡ true
-  above_here m h = ap (any_above m) (drop_more xs i 0 within) ∙ ap (λ t. t || any_above m (drop (i + 1) xs)) (lt-ltb m (get_or xs i 0) h)
+-- Numbers that rise from a first one on.
+abbrev rises_from : ℕ → List ℕ → Bool
+rises_from before [] = true
+rises_from before (x ∷ xs) = leb before x && rises_from x xs
 
-  -- It is not, and the rest decides.
-  pub above_later : (m : ℕ) → get_or xs i 0 ≤ m → any_above m (drop i xs) ≡ any_above m (drop (i + 1) xs)
-  above_later m h = ap (any_above m) (drop_more xs i 0 within) ∙ ap (λ t. t || any_above m (drop (i + 1) xs)) (le-ltb m (get_or xs i 0) h)
+and-false : (a : Bool) → (a && false) ≡ false
+and-false true = refl
+and-false false = refl
 
-  -- Behind the bands an offer is 0.
-  module _ (b before : ℕ) (behind : b ≤ i) where
-    none_left : b - i ≡ 0
-    none_left = omega arith
+and_grouped : (a b c : Bool) → (a && (b && c)) ≡ ((a && b) && c)
+and_grouped true b c = refl
+and_grouped false b c = refl
 
-    behind_is : keeps_bands (b - i) before (drop i xs) ≡ (eqb (get_or xs i 0) 0 && keeps_bands 0 before (drop (i + 1) xs))
-    behind_is = ap (λ m. keeps_bands m before (drop i xs)) none_left ∙ ap (keeps_bands 0 before) (drop_more xs i 0 within)
+-- Offers that keep to their bands rise over them and are 0 behind them.
+keeps_bands_split : (bands before : ℕ) (offers : List ℕ) → keeps_bands bands before offers ≡ (rises_from before (take bands offers) && list_all (λ o. eqb o 0) (drop bands offers))
+keeps_bands_split zero before [] = refl
+keeps_bands_split (suc bands) before [] = refl
+keeps_bands_split zero before (o ∷ os) = ap (λ t. eqb o 0 && t) (keeps_bands_split zero before os)
+keeps_bands_split (suc bands) before (o ∷ os) =
+    ap (λ t. leb before o && t) (keeps_bands_split bands o os)
+    ∙ and_grouped (leb before o) (rises_from o (take bands os)) (list_all (λ x. eqb x 0) (drop bands os))
 
-    pub behind_fails : (get_or xs i 0 ≡ 0 → ⊥) → keeps_bands (b - i) before (drop i xs) ≡ false
-    behind_fails h = behind_is ∙ ap (λ t. t && keeps_bands 0 before (drop (i + 1) xs)) (ne_eqb (get_or xs i 0) 0 h)
+rises_is_true : (before : ℕ) (xs : List ℕ) → (0 < length xs → before ≤ get_or xs 0 0) → IsNonDecreasing xs → rises_from before xs ≡ true
+rises_is_true before [] first up = refl
+rises_is_true before (x ∷ xs) first up =
+    and_from (leb before x) (rises_from x xs) (le-leb before x (first (omega arith)))
+    (rises_is_true x xs (λ some. up 0 1 0 (omega arith) (omega (arith, some))) (λ i j d le lj. up (suc i) (suc j) d (omega (arith, le)) (omega (arith, lj))))
 
-    pub behind_later : get_or xs i 0 ≡ 0 → keeps_bands (b - i) before (drop i xs) ≡ keeps_bands (b - (i + 1)) before (drop (i + 1) xs)
-    behind_later h =
-        let still : 0 ≡ b - (i + 1) = omega arith in
-        behind_is ∙ ap (λ t. t && keeps_bands 0 before (drop (i + 1) xs)) (eq-eqb (get_or xs i 0) 0 h) ∙ ap (λ m. keeps_bands m before (drop (i + 1) xs)) still
+rises_is_false : (before : ℕ) (xs : List ℕ) (k : ℕ) → suc k < length xs → get_or xs (suc k) 0 < get_or xs k 0 → rises_from before xs ≡ false
+rises_is_false before [] k lk fall = absurd (let no : ⊥ = omega arith in no)
+rises_is_false before (x ∷ []) k lk fall = absurd (let no : ⊥ = omega arith in no)
+rises_is_false before (x ∷ y ∷ ys) zero lk fall = ap (λ t. leb before x && (t && rises_from y ys)) (lt-leb x y fall) ∙ and-false (leb before x)
+rises_is_false before (x ∷ y ∷ ys) (suc k) lk fall = ap (λ t. leb before x && t) (rises_is_false x (y ∷ ys) k (omega (arith, lk)) fall) ∙ and-false (leb before x)
 
-  -- Within the bands an offer is at least the one before.
-  module _ (b before : ℕ) (inside : i < b) where
-    some_left : b - i ≡ suc (b - (i + 1))
-    some_left = omega arith
+-- What a test of order answers is whether the numbers rise from 0 on.
+rises_from_zero : (xs : List ℕ) (r : Bool) → MatchBool r (IsNonDecreasing xs) ((k : ℕ) × (k + 1 < length xs) × ((d : ℕ) → get_or xs (k + 1) d < get_or xs k d)) → r ≡ rises_from 0 xs
+rises_from_zero xs true up = sym (rises_is_true 0 xs (λ some. omega arith) up)
+rises_from_zero xs false fall =
+    let next : fall.0 + 1 ≡ suc fall.0 = omega arith in
+    sym (rises_is_false 0 xs fall.0 (omega (arith, fall.1)) (subst (λ m. get_or xs m 0 < get_or xs fall.0 0) next (fall.2 0)))
 
-    inside_is : keeps_bands (b - i) before (drop i xs) ≡ (leb before (get_or xs i 0) && keeps_bands (b - (i + 1)) (get_or xs i 0) (drop (i + 1) xs))
-    inside_is = ap (λ m. keeps_bands m before (drop i xs)) some_left ∙ ap (keeps_bands (suc (b - (i + 1))) before) (drop_more xs i 0 within)
+module _ (bands : ℕ) (offers : List ℕ) (sorted : Bool)
+    (answered : MatchBool sorted (IsNonDecreasing (take bands offers)) ((k : ℕ) × (k + 1 < length (take bands offers)) × ((d : ℕ) → get_or (take bands offers) (k + 1) d < get_or (take bands offers) k d))) where
+  -- Offers that do not rise over the bands do not keep to them.
+  pub falls : sorted ≡ false → false ≡ keeps_bands bands 0 offers
+  falls e = sym (keeps_bands_split bands 0 offers ∙ ap (λ t. t && list_all (λ o. eqb o 0) (drop bands offers)) (sym (rises_from_zero (take bands offers) sorted answered) ∙ e))
 
-    pub inside_fails : get_or xs i 0 < before → keeps_bands (b - i) before (drop i xs) ≡ false
-    inside_fails h = inside_is ∙ ap (λ t. t && keeps_bands (b - (i + 1)) (get_or xs i 0) (drop (i + 1) xs)) (lt-leb before (get_or xs i 0) h)
-
-    pub inside_later : before ≤ get_or xs i 0 → keeps_bands (b - i) before (drop i xs) ≡ keeps_bands (b - (i + 1)) (get_or xs i 0) (drop (i + 1) xs)
-    inside_later h = inside_is ∙ ap (λ t. t && keeps_bands (b - (i + 1)) (get_or xs i 0) (drop (i + 1) xs)) (le-leb before (get_or xs i 0) h)
+  -- Those that rise keep to them if they are 0 behind.
+  pub rest_decides : sorted ≡ true → list_all (λ o. eqb o 0) (drop bands offers) ≡ keeps_bands bands 0 offers
+  rest_decides e = sym (keeps_bands_split bands 0 offers ∙ ap (λ t. t && list_all (λ o. eqb o 0) (drop bands offers)) (sym (rises_from_zero (take bands offers) sorted answered) ∙ e))
 
 -- Where none is above the maximum, each is at most the maximum.
 pub none_above : (m : ℕ) (xs : List ℕ) → any_above m xs ≡ false → (k : ℕ) → get_or xs k 0 ≤ m

@@ -1,5 +1,6 @@
 -- What makes an offer, a bid or a tariff acceptable by its own figures, and the tiers of an accepted offer.
-use Rattle.std.specs.Prelude.{◌≡◌, ℕ, zero, suc, ◌+◌, ◌*◌, ◌<◌, Bool, true, false, not, ◌&&◌, ◌||◌, List, [], ◌∷◌, map, is_some, Some, None, Ok, Err, Option, Result, ◌==◌, nat_le, nat_lt, slice_index}
+use Rattle.std.specs.Prelude.{◌≡◌, ℕ, zero, suc, ◌+◌, ◌*◌, ◌<◌, Bool, true, not, ◌&&◌, ◌||◌, List, [], ◌∷◌, map, is_some, Some, None, Ok, Err, Option, Result, ◌==◌, nat_le, nat_lt, slice_index}
+use Rattle.std.specs.List.{list_any}
 use Rattle.market.specs.Maxima.{unit_count, grid_count, branch_dispatch, bands_of_unit, max_figure, max_need, max_price, max_offer, max_tariff}
 use Rattle.market.specs.Classes.{class_number, class_at}
 use Rattle.market.specs.declared.classes.Class.{Class}
@@ -16,8 +17,7 @@ use Rattle.market.specs.declared.tiers.Tier.{Tier}
 
 -- some figure is above the maximum
 abbrev pub any_above : ℕ → List ℕ → Bool
-any_above m [] = false
-any_above m (x ∷ xs) = nat_lt m x || any_above m xs
+any_above m = list_any (nat_lt m)
 
 -- the five figures of an offer as it is handed over
 abbrev pub figures_in : RawOffer → Figures

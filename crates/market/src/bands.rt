@@ -20,15 +20,22 @@ impl UnitFigures {
 pub trait BandScheme {
     ghost scheme: { Scheme };
 
-    const BANDS: usize;
+    ghost BANDS: { ℕ };
 
     // The number of bands.
+    const BANDS: usize;
+
     fn band_count() -> usize
-        ensures { result ≡ scheme.bands };
+        ensures { result ≡ scheme.bands }
+    {
+        Self::BANDS
+    }
 
     // The percentage at which an edge lies: band k lies between the edges k and k + 1.
     fn percent(edge: usize) -> u8
         ensures { result ≡ scheme.percent edge };
+
+    ghost counted: { BANDS ≡ scheme.bands };
 
     ghost rising: { Rising scheme };
 }
@@ -39,13 +46,13 @@ pub struct ThreeBands;
 impl BandScheme for ThreeBands {
     ghost scheme = { three_bands };
 
+    ghost BANDS = { 3 };
+
     const BANDS: usize = 3;
 
-    ghost rising = { Prim.search rules };
+    ghost counted = { Prim.search rules };
 
-    fn band_count() -> usize {
-        ThreeBands::BANDS
-    }
+    ghost rising = { Prim.search rules };
 
     fn percent(edge: usize) -> u8 {
         match edge {
@@ -63,13 +70,13 @@ pub struct OneBand;
 impl BandScheme for OneBand {
     ghost scheme = { one_band };
 
+    ghost BANDS = { 1 };
+
     const BANDS: usize = 1;
 
-    ghost rising = { Prim.search rules };
+    ghost counted = { Prim.search rules };
 
-    fn band_count() -> usize {
-        OneBand::BANDS
-    }
+    ghost rising = { Prim.search rules };
 
     fn percent(edge: usize) -> u8 {
         if edge == 0 { 0 } else { 100 }

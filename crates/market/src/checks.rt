@@ -1,5 +1,6 @@
 // Checks of what is handed over, by its own figures, and the tiers of an accepted offer.
-ghost use Rattle.std.specs.Prelude.{◌≡◌, ◌<◌, ◌≤◌, Bool, true, false, not, ◌||◌, IfOk, MatchOption};
+ghost use Rattle.std.specs.Prelude.{◌≡◌, ◌<◌, ◌≤◌, Bool, true, false, not, ◌||◌, IfOk, MatchOption, length, ◌==◌};
+ghost use Rattle.std.specs.List.{list_all};
 ghost use Rattle.market.specs.Maxima.{max_figure, max_offer};
 ghost use Rattle.market.specs.Rows.{topmost};
 ghost use Rattle.market.specs.Bands.{scheme_of, figures_of};
@@ -8,6 +9,9 @@ ghost use Rattle.market.specs.Entries.{any_above, figures_in, listed, exceeds_na
 use super::classes::Class;
 use super::entries::{RawOffer, UnitOffer};
 use super::figures::{BidPrice, Charges, Grid, Offer, Place, Tariff, Unit, UnitFigures};
+use super::maxima::{
+    BRANCH_DISPATCH, GRIDS, MAX_FIGURE, MAX_NEED, MAX_OFFER, MAX_PRICE, MAX_TARIFF,
+};
 use super::refusals::MarketRefusal;
 use super::tiers::{Bid, Tier};
 
@@ -15,32 +19,22 @@ use super::tiers::{Bid, Tier};
 fn any_above(maximum: u32, figures: &[u32]) -> bool
     ensures { result ≡ any_above maximum figures.now }
 {
-    for figure in figures {
-        if *figure > maximum {
-            return true;
-        }
-    }
-    false
+    figures.iter().any(|figure| *figure > maximum)
+}
+
+// Whether all offers are 0.
+fn all_zero(offers: &[u32]) -> bool
+    ensures { result ≡ list_all (λ o. o == 0) offers.now }
+{
+    offers.iter().all(|offer| *offer == 0)
 }
 
 // Whether offers rise over the bands and are 0 behind them.
 fn keeps_bands(bands: usize, offers: &[u32]) -> bool
+    requires { bands ≤ length offers.now }
     ensures { result ≡ keeps_bands bands 0 offers.now }
 {
-    let mut before = 0;
-    for (band, offer) in offers.iter().enumerate() {
-        if band >= bands {
-            if *offer != 0 {
-                return false;
-            }
-        } else {
-            if *offer < before {
-                return false;
-            }
-            before = *offer;
-        }
-    }
-    true
+    offers[..bands].is_sorted() && all_zero(&offers[bands..])
 }
 
 impl Offer {
@@ -65,7 +59,7 @@ impl RawOffer {
             self.kept_reserve,
             self.plan,
         ];
-        any_above(20_000, &figures) || any_above(1_000, &self.offers)
+        any_above(MAX_FIGURE, &figures) || any_above(MAX_OFFER, &self.offers)
     }
 
     // Whether derates, reserve and plan exceed the nameplate, where no figure is above its maximum.
@@ -95,21 +89,16 @@ impl UnitFigures {
 }
 
 impl UnitOffer {
+    // A function like those of bids and tariffs, which take several figures, and no `TryFrom`.
     // Checks an offer by its own figures: numbers in range, figures within their maxima, headroom, offers that rise over the
     // bands. Accepted, it holds exactly what was handed over.
     pub fn checked(raw: &RawOffer) -> Result<UnitOffer, MarketRefusal>
         ensures answer { market_answer result ≡ topmost (offer_rows raw.now) }
         ensures entered { IfOk result (λ o. handed_over o ≡ raw.now) }
     {
-        let Some(unit) = Unit::from_number(raw.unit) else {
-            return Err(MarketRefusal::OutOfRange { name: raw.unit });
-        };
-        let Some(grid) = Grid::from_number(raw.grid) else {
-            return Err(MarketRefusal::OutOfRange { name: raw.grid });
-        };
-        let Some(class) = Class::from_number(raw.class) else {
-            return Err(MarketRefusal::OutOfRange { name: raw.class });
-        };
+        let unit = Unit::try_from(raw.unit)?;
+        let grid = Grid::try_from(raw.grid)?;
+        let class = Class::try_from(raw.class)?;
         if raw.above_maximum() {
             return Err(MarketRefusal::AboveMaximum { name: raw.unit });
         }
@@ -156,10 +145,8 @@ impl Bid {
         ensures answer { market_answer result ≡ topmost (bid_rows grid price need) }
         ensures entered { IfOk result (λ b. (b.grid.number ≡ grid) × (b.price.fen ≡ price) × (b.need ≡ need)) }
     {
-        let Some(buyer) = Grid::from_number(grid) else {
-            return Err(MarketRefusal::OutOfRange { name: grid });
-        };
-        if price > 200_000 || need > 200_000 {
+        let buyer = Grid::try_from(grid)?;
+        if price > MAX_PRICE || need > MAX_NEED {
             return Err(MarketRefusal::AboveMaximum { name: grid });
         }
         Ok(Bid {
@@ -176,10 +163,10 @@ impl Tariff {
         ensures answer { market_answer result ≡ topmost (tariff_rows grid fen) }
         ensures entered { IfOk result (λ t. t.fen ≡ fen) }
     {
-        if grid > 16 {
+        if grid > GRIDS {
             return Err(MarketRefusal::OutOfRange { name: grid });
         }
-        if fen > 50_000 || grid == 15 && fen != 0 {
+        if fen > MAX_TARIFF || grid == BRANCH_DISPATCH && fen != 0 {
             return Err(MarketRefusal::AboveMaximum { name: grid });
         }
         Ok(Tariff { fen: fen as u16 })

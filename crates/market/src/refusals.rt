@@ -2,8 +2,10 @@
 // Each answers a number, the layer that declines (1 sheet, 2 market, 3 screen) and the name of what is at fault.
 ghost use Rattle.std.specs.Prelude.{◌≡◌};
 ghost use Rattle.market.specs.Refusals.{sheet_refusal, market_refusal, screen_refusal};
+ghost use Rattle.market.specs.declared.refusals.MarketRefusal.TheVariants as market;
+ghost use Rattle.market.specs.declared.refusals.ScreenRefusal.TheVariants as screen;
 
-// What a declined call answers.
+// What a declined call answers. Number and layer stay numbers, since they are what a line prints; the enums below are the kinds.
 #[derive(Clone, Copy, PartialEq, Eq, Debug)]
 pub struct Refusal {
     pub number: u8,
@@ -11,8 +13,14 @@ pub struct Refusal {
     pub name: u32,
 }
 
+// A number that nothing has: no unit, grid, class or place.
+#[derive(Clone, Copy, PartialEq, Eq, Debug)]
+pub struct OutOfRange {
+    pub name: u32,
+}
+
 // A sheet or a strip of tariffs that cannot be read.
-#[derive(Clone, Copy)]
+#[derive(Clone, Copy, PartialEq, Eq, Debug)]
 pub enum SheetRefusal {
     // Fewer bytes than a strip or a header has, or than the sheet's stated length.
     TooShort,
@@ -22,11 +30,11 @@ pub enum SheetRefusal {
     OtherPoint,
 }
 
-impl SheetRefusal {
-    pub fn refusal(self) -> Refusal
-        ensures { result ≡ sheet_refusal self }
-    {
-        let number = match self {
+impl From<SheetRefusal> for Refusal {
+    ghost from_gives = { λ e r. r ≡ sheet_refusal e };
+
+    fn from(refusal: SheetRefusal) -> Refusal {
+        let number = match refusal {
             SheetRefusal::TooShort => 11,
             SheetRefusal::BadLayout => 12,
             SheetRefusal::OtherPoint => 14,
@@ -40,7 +48,7 @@ impl SheetRefusal {
 }
 
 // A call that the market declines. `name` is the unit or grid that the call names, as it was handed over.
-#[derive(Clone, Copy)]
+#[derive(Clone, Copy, PartialEq, Eq, Debug)]
 pub enum MarketRefusal {
     // 96 points are posted and the day still runs.
     DayFull { name: u32 },
@@ -68,11 +76,11 @@ pub enum MarketRefusal {
     EntriesFull { name: u32 },
 }
 
-impl MarketRefusal {
-    pub fn refusal(self) -> Refusal
-        ensures { result ≡ market_refusal self }
-    {
-        let (number, name) = match self {
+impl From<MarketRefusal> for Refusal {
+    ghost from_gives = { λ e r. r ≡ market_refusal e };
+
+    fn from(refusal: MarketRefusal) -> Refusal {
+        let (number, name) = match refusal {
             MarketRefusal::DayFull { name } => (1, name),
             MarketRefusal::Cleared { name } => (2, name),
             MarketRefusal::NotCleared => (3, 0),
@@ -95,7 +103,7 @@ impl MarketRefusal {
 }
 
 // A call that the screen declines.
-#[derive(Clone, Copy)]
+#[derive(Clone, Copy, PartialEq, Eq, Debug)]
 pub enum ScreenRefusal {
     // A unit, grid, corridor or place that there is not; `name` is that number.
     OutOfRange { name: u32 },
@@ -107,11 +115,11 @@ pub enum ScreenRefusal {
     ParentNotLower { corridor: u32 },
 }
 
-impl ScreenRefusal {
-    pub fn refusal(self) -> Refusal
-        ensures { result ≡ screen_refusal self }
-    {
-        let (number, name) = match self {
+impl From<ScreenRefusal> for Refusal {
+    ghost from_gives = { λ e r. r ≡ screen_refusal e };
+
+    fn from(refusal: ScreenRefusal) -> Refusal {
+        let (number, name) = match refusal {
             ScreenRefusal::OutOfRange { name } => (4, name),
             ScreenRefusal::AboveMaximum { name } => (5, name),
             ScreenRefusal::AboveRoom { place } => (15, place),
@@ -122,5 +130,21 @@ impl ScreenRefusal {
             layer: 3,
             name,
         }
+    }
+}
+
+impl From<OutOfRange> for MarketRefusal {
+    ghost from_gives = { λ e r. r ≡ market.OutOfRange e.name };
+
+    fn from(out: OutOfRange) -> MarketRefusal {
+        MarketRefusal::OutOfRange { name: out.name }
+    }
+}
+
+impl From<OutOfRange> for ScreenRefusal {
+    ghost from_gives = { λ e r. r ≡ screen.OutOfRange e.name };
+
+    fn from(out: OutOfRange) -> ScreenRefusal {
+        ScreenRefusal::OutOfRange { name: out.name }
     }
 }

@@ -1,5 +1,5 @@
 // The sharing rule: a quantity is shared over claims by running sums. It serves bids by open need and tied tiers by capacity.
-ghost use Rattle.std.specs.Prelude.{◌≡◌, ◌+◌, ◌^◌, ◌<◌, ◌≤◌, true, false, length, is_some, if◌then◌else◌, sum, MatchOption};
+ghost use Rattle.std.specs.Prelude.{◌≡◌, ◌+◌, ◌^◌, ◌<◌, ◌≤◌, true, false, length, is_ok, is_some, if◌then◌else◌, sum, MatchOption};
 ghost use Rattle.market.specs.Worked.{WorkedShares};
 ghost use Rattle.market.specs.Sharing.{part, share_at, shares_of, Fair, can_share};
 
@@ -70,35 +70,29 @@ impl Sharing {
 fn sum_of(claims: &[u32]) -> Option<u32>
     ensures { MatchOption result (2 ^ 32 ≤ sum claims.now) (λ n. n ≡ sum claims.now) }
 {
-    let mut all: u32 = 0;
-    for claim in claims {
-        let Some(more) = all.checked_add(*claim) else {
-            return None;
-        };
-        all = more;
-    }
-    Some(all)
+    claims
+        .iter()
+        .try_fold(0u32, |all, claim| all.checked_add(*claim))
 }
 
-// Writes the share of each claim of a quantity into `shares`. Declined, and nothing is written, where the quantity is above
-// the sum of claims, the sum does not fit, or there are not as many shares as claims.
-pub fn share_out(quantity: u32, claims: &[u32], shares: &mut [u32]) -> bool
-    ensures answer { result ≡ can_share quantity claims.now (length shares.old) }
-    ensures given { result ≡ true → (shares.new ≡ shares_of quantity claims.now) × Fair quantity claims.now shares.new }
-    ensures declined { result ≡ false → shares.new ≡ shares.old }
+// Why a quantity cannot be shared out: it is above the sum of claims, the sum does not fit, or there are not as many shares as claims.
+#[derive(Clone, Copy, PartialEq, Eq, Debug)]
+pub struct CannotShare;
+
+// Writes the share of each claim of a quantity into `shares`. Declined, nothing is written.
+pub fn share_out(quantity: u32, claims: &[u32], shares: &mut [u32]) -> Result<(), CannotShare>
+    ensures answer { is_ok result ≡ can_share quantity claims.now (length shares.old) }
+    ensures given { is_ok result ≡ true → (shares.new ≡ shares_of quantity claims.now) × Fair quantity claims.now shares.new }
+    ensures declined { is_ok result ≡ false → shares.new ≡ shares.old }
     ensures worked { WorkedShares }
 {
     if shares.len() != claims.len() {
-        return false;
+        return Err(CannotShare);
     }
-    let Some(all) = sum_of(claims) else {
-        return false;
-    };
-    let Some(mut sharing) = Sharing::start(quantity, all) else {
-        return false;
-    };
+    let all = sum_of(claims).ok_or(CannotShare)?;
+    let mut sharing = Sharing::start(quantity, all).ok_or(CannotShare)?;
     for (i, claim) in claims.iter().enumerate() {
         shares[i] = sharing.serve(*claim);
     }
-    true
+    Ok(())
 }

@@ -1,21 +1,19 @@
--- The loop sums the places it has passed, and the theorems on limits are those of `Cuts` and `Groups`.
-use Rattle.std.proofs.Common.{get_or, sym, ap, ◌∙◌, arith}
-use Rattle.lawful.specs.Sums.{sum_to}
-use Rattle.lawful.proofs.Sums.{sum_none, sum_more}
+use Rattle.std.proofs.Common.{◌≡◌, ◌∙◌, sum, rules}
+use Rattle.std.proofs.iter.runs.Sources.{sums}
+use Rattle.std.proofs.iter.runs.Made.{chains}
+use Rattle.lawful.proofs.Lists.{sum_of_list}
 use Rattle.lawful.proofs.Cuts.{caps_keep_laws, total_limit_keeps_laws, above_keeps_laws, sums_by_class_keep_laws}
 use Rattle.lawful.proofs.Groups.{nested_groups_are_lawful}
 use Rattle.lawful.proofs.total.Goals as goal
 
-pub loop-q-init : goal.loop-q-init
-loop-q-init c = (sym (sum_none (λ p. get_or c.args.award.now p 0)), omega arith)
-
-pub loop-q-preserved : goal.loop-q-preserved
-loop-q-preserved c = (omega (arith, sum_more c.loop-q.q-index (λ p. get_or c.args.award.now p 0)), omega arith)
+pub sum-requires-clause-fits : goal.sum-requires-clause-fits
+sum-requires-clause-fits c = search (rules, sums)
 
 pub returns : goal.returns
 returns c =
+    let listed : c.sum.result ≡ sum c.args.award.now = search (rules, chains) in
     record {
-      value = c.loop-q.invariant.0 ∙ ap (λ n. sum_to n (λ p. get_or c.args.award.now p 0)) (omega arith);
+      value = listed ∙ sum_of_list c.args.award.now 256 c.told-award;
       caps = caps_keep_laws;
       ceiling = total_limit_keeps_laws;
       above = above_keeps_laws;

@@ -1,4 +1,4 @@
-use Rattle.std.proofs.Common.{◌≡◌, ℕ, ◌+◌, ◌≤◌, length, get_or, take, sum, sym, ap, ◌∙◌, subst, arith, length-set, take_all}
+use Rattle.std.proofs.Common.{rules, ◌≡◌, ℕ, ◌+◌, ◌≤◌, length, get_or, take, sum, sym, ap, ◌∙◌, subst, arith, length-set, take_all}
 use Rattle.std.proofs.lemmas.List.Sums.{sum_by_more, sum_by-take-le}
 use Rattle.market.specs.Sharing.{shares_of, share_at, Fair}
 use Rattle.market.proofs.Shares.{share_written, shares_fair, length_shares, can_share_lem}
@@ -39,7 +39,7 @@ returns c =
     let enough : c.args.quantity ≤ sum xs = omega (arith, inv.1, inv.2, c.loop-i.sharing.enough) in
     let fair = shares_fair c.args.quantity xs enough in
     record {
-      answer = can_share_lem c.args.quantity xs _ (omega arith) (omega (arith, c.in-Some.ensures)) enough;
+      answer = can_share_lem c.args.quantity xs _ (omega arith) (search rules) enough;
       given = λ _. (written, subst (Fair c.args.quantity xs) (sym written) fair);
       declined = λ e. absurd (let z : ◌≡◌ {A = ℕ} 0 1 = cc in let no : ⊥ = omega arith in no);
       worked = worked_shares;

@@ -21,5 +21,5 @@ returns c =
     let each : c.of-2.result.yuan ∷ c.of-3.result.yuan ∷ c.of-4.result.yuan ∷ c.of-5.result.yuan ∷ [] ≡ get_or os 0 0 ∷ get_or os 1 0 ∷ get_or os 2 0 ∷ get_or os 3 0 ∷ [] = cc in
     record {
       answer = search rules;
-      entered = handed_over_lem c.args.raw.now (record { unit = c.in-Some.unit; grid = c.in-Some-from_number.grid; class = c.in-Some-from_number-2.class; figures = c.of.result; offers = c.of-2.result ∷ c.of-3.result ∷ c.of-4.result ∷ c.of-5.result ∷ [] }) c.in-Some.ensures c.in-Some-from_number.ensures (class_told c.args.raw.now.class c.in-Some-from_number-2.class c.in-Some-from_number-2.ensures) c.of.ensures (each ∙ four os long);
+      entered = handed_over_lem c.args.raw.now (record { unit = c.in_ok-unit.unit; grid = c.in_ok-grid.grid; class = c.in_ok-class.class; figures = c.of.result; offers = c.of-2.result ∷ c.of-3.result ∷ c.of-4.result ∷ c.of-5.result ∷ [] }) c.in_ok-unit.ensures c.in_ok-grid.ensures (class_told c.args.raw.now.class c.in_ok-class.class c.in_ok-class.ensures) c.of.ensures (each ∙ four os long);
     }
