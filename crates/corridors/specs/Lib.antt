@@ -1,3 +1,4 @@
+pub mod CorridorSets
 pub mod ByCorridor
 pub mod Trees
 pub mod Rooms

@@ -1,4 +1,3 @@
 pub mod ByGrid
 pub mod GridSets
 pub mod Grids
-pub mod GroupRooms

@@ -1,1 +1,4 @@
+pub mod Cutting
+pub mod Decided
+pub mod OnePlace
 pub mod Stack

@@ -1,2 +1,4 @@
+pub mod GroupRooms
 pub mod Meaning
+pub mod Numbers
 pub mod Rooms

@@ -10,7 +10,11 @@ ghost use Rattle.screen.specs.Meaning.{Settings, with_setting, room_at, after_ta
 ghost use Rattle.screen.specs.Rooms.{all_lawful};
 ghost use Rattle.std.proofs.Common.{rules};
 
+use market::figures::Place;
+use market::maxima::{MAX_FIGURE, PLACES};
 use market::refusals::ScreenRefusal;
+
+pub mod nodes;
 
 pub trait Screen {
     // The awards permitted at the start.
@@ -103,14 +107,12 @@ impl Screen for OpenScreen {
     fn reset(&mut self) {}
 
     fn room(&self, place: u32) -> u32 {
-        if place < 256 { 20_000 } else { 0 }
+        if place < PLACES { MAX_FIGURE } else { 0 }
     }
 
     fn take(&mut self, place: u32, quantity: u32) -> Result<(), ScreenRefusal> {
-        if place > 255 {
-            return Err(ScreenRefusal::OutOfRange { name: place });
-        }
-        if quantity > 20_000 {
+        Place::try_from(place)?;
+        if quantity > MAX_FIGURE {
             return Err(ScreenRefusal::AboveRoom { place });
         }
         Ok(())

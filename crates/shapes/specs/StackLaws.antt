@@ -1,32 +1,25 @@
 -- The laws of a screen, from a base up through the layers over it.
-use Rattle.std.proofs.Common.{◌≡◌, ℕ, false, eqb, List, [], ◌∷◌, get_or, drop, refl, ap, ap₂}
+use Rattle.std.proofs.Common.{◌≡◌, ℕ, false, eqb, [], ◌∷◌, get_or, refl, ap, ap₂}
 use Rattle.std.proofs.lemmas.Bool.{eqb-false}
 use Rattle.lawful.specs.Lawful.{Lawful}
 use Rattle.lawful.proofs.Cuts.{caps_keep_laws, total_limit_keeps_laws}
 use Rattle.screen.specs.Meaning.{Settings}
 use Rattle.screen.specs.declared.Screen.{Ghosts}
+use Rattle.layers.specs.Decided.{Decided, tables_behind, first_table}
 use Rattle.layers.specs.Stack.{by_caps, by_ceiling, under_caps, under_ceiling}
 use Rattle.shapes.specs.Shapes.{layered}
 use Rattle.shapes.specs.declared.Layered.{Layered}
 use Rattle.shapes.specs.declared.Layered.TheVariants.{Bare, Capped, Ceiled, CapOverCeiling, CeilingOverCap}
 
--- the settings decide the fresh set
-abbrev pub Decided : {S : Type 0} → Ghosts S → Type 0
-Decided {S} screen = (s t : S) → screen.settings s ≡ screen.settings t → screen.fresh s ≡ screen.fresh t
-
--- the tables behind the first
-tables_behind : {s t : Settings} {a b : List ℕ} → a ∷ s ≡ b ∷ t → s ≡ t
-tables_behind e = ap (drop 1) e
-
 -- A cap layer keeps this.
 pub decided_under_caps : {S : Type 0} (screen : Ghosts S) → Decided screen → Decided (under_caps screen)
 decided_under_caps screen below s t e =
-    ap₂ by_caps (ap (λ (x : Settings). get_or x 0 []) e) (below s.below t.below (tables_behind e))
+    ap₂ by_caps (first_table e) (below s.below t.below (tables_behind e))
 
 -- A ceiling layer keeps this.
 pub decided_under_ceiling : {S : Type 0} (screen : Ghosts S) → Decided screen → Decided (under_ceiling screen)
 decided_under_ceiling screen below s t e =
-    ap₂ by_ceiling (ap (λ (x : Settings). get_or (get_or x 0 []) 0 0) e) (below s.below t.below (tables_behind e))
+    ap₂ by_ceiling (ap (λ row. get_or row 0 0) (first_table e)) (below s.below t.below (tables_behind e))
 
 -- Stacks of one number agree in the tables behind it.
 pub alike : {s t : Settings} {k : ℕ} → (k ∷ []) ∷ s ≡ (k ∷ []) ∷ t → s ≡ t
@@ -41,22 +34,22 @@ unlike k j ne e =
 -- The fresh set of a stack is lawful where that of the base is.
 pub layered_fresh_lawful : {B : Type 0} (base : Ghosts B) → ((s : B) → Lawful 256 (base.fresh s)) → (s : Layered B) → Lawful 256 ((layered base).fresh s)
 layered_fresh_lawful base laws (Bare s) = laws s
-layered_fresh_lawful base laws (Capped s) = caps_keep_laws 256 (λ p. get_or s.table.caps p 0) _ (laws s.below)
-layered_fresh_lawful base laws (Ceiled s) = total_limit_keeps_laws 256 s.table.limit _ (laws s.below)
+layered_fresh_lawful base laws (Capped s) = caps_keep_laws 256 (λ p. get_or s.table.limits.caps p 0) _ (laws s.below)
+layered_fresh_lawful base laws (Ceiled s) = total_limit_keeps_laws 256 s.table.limits.limit _ (laws s.below)
 layered_fresh_lawful base laws (CapOverCeiling s) =
-    caps_keep_laws 256 (λ p. get_or s.table.caps p 0) _ (total_limit_keeps_laws 256 s.below.table.limit _ (laws s.below.below))
+    caps_keep_laws 256 (λ p. get_or s.table.limits.caps p 0) _ (total_limit_keeps_laws 256 s.below.table.limits.limit _ (laws s.below.below))
 layered_fresh_lawful base laws (CeilingOverCap s) =
-    total_limit_keeps_laws 256 s.table.limit _ (caps_keep_laws 256 (λ p. get_or s.below.table.caps p 0) _ (laws s.below.below))
+    total_limit_keeps_laws 256 s.table.limits.limit _ (caps_keep_laws 256 (λ p. get_or s.below.table.limits.caps p 0) _ (laws s.below.below))
 
 -- The open set of a stack is lawful where that of the base is.
 pub layered_ontop_lawful : {B : Type 0} (base : Ghosts B) → ((s : B) → Lawful 256 (base.ontop s)) → (s : Layered B) → Lawful 256 ((layered base).ontop s)
 layered_ontop_lawful base laws (Bare s) = laws s
-layered_ontop_lawful base laws (Capped s) = caps_keep_laws 256 (λ p. get_or s.table.left p 0) _ (laws s.below)
-layered_ontop_lawful base laws (Ceiled s) = total_limit_keeps_laws 256 s.table.left _ (laws s.below)
+layered_ontop_lawful base laws (Capped s) = caps_keep_laws 256 (λ p. get_or s.table.left.caps p 0) _ (laws s.below)
+layered_ontop_lawful base laws (Ceiled s) = total_limit_keeps_laws 256 s.table.left.limit _ (laws s.below)
 layered_ontop_lawful base laws (CapOverCeiling s) =
-    caps_keep_laws 256 (λ p. get_or s.table.left p 0) _ (total_limit_keeps_laws 256 s.below.table.left _ (laws s.below.below))
+    caps_keep_laws 256 (λ p. get_or s.table.left.caps p 0) _ (total_limit_keeps_laws 256 s.below.table.left.limit _ (laws s.below.below))
 layered_ontop_lawful base laws (CeilingOverCap s) =
-    total_limit_keeps_laws 256 s.table.left _ (caps_keep_laws 256 (λ p. get_or s.below.table.left p 0) _ (laws s.below.below))
+    total_limit_keeps_laws 256 s.table.left.limit _ (caps_keep_laws 256 (λ p. get_or s.below.table.left.caps p 0) _ (laws s.below.below))
 
 -- The settings of a stack decide its fresh set where those of the base do: other shapes have other settings.
 pub layered_decided : {B : Type 0} (base : Ghosts B) → Decided base → Decided (layered base)

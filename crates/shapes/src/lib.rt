@@ -17,6 +17,7 @@ use market::refusals::ScreenRefusal;
 use screen::{NodeLimits, NodeParents, Screen};
 
 // A base and the layers over it, the outermost named first.
+// Each variant holds a screen of another type, so a call is passed on variant by variant: a function may not hand out a `&dyn Screen`.
 #[derive(Drop)]
 pub enum Layered<B> {
     Bare(B),

@@ -2,7 +2,8 @@
 use Rattle.std.proofs.Common.{refl}
 use Rattle.lawful.specs.Lawful.{Lawful}
 use Rattle.screen.specs.declared.Screen.{Ghosts}
-use Rattle.shapes.specs.StackLaws.{Decided, layered_fresh_lawful, layered_ontop_lawful, layered_decided, alike, unlike}
+use Rattle.layers.specs.Decided.{Decided}
+use Rattle.shapes.specs.StackLaws.{layered_fresh_lawful, layered_ontop_lawful, layered_decided, alike, unlike}
 use Rattle.stacks.specs.Kinds.{any_of}
 use Rattle.stacks.specs.declared.AnyOf.{AnyOf}
 use Rattle.stacks.specs.declared.AnyOf.TheVariants.{Open, Grid, Corridor}

@@ -16,6 +16,7 @@ use screen::{NodeLimits, NodeParents, OpenScreen, Screen};
 use shapes::Layered;
 
 // A stack over one of three bases: one with nothing to set, one with limits, one with limits and parents.
+// Each variant holds a stack of another type, so a call is passed on variant by variant: a function may not hand out a `&dyn Screen`.
 #[derive(Drop)]
 pub enum AnyOf<O, G, C> {
     Open(Layered<O>),

@@ -1,12 +1,12 @@
-use Rattle.std.proofs.Common.{arith}
 use Rattle.corridors.specs.Rooms.{least_is_room}
+use Rattle.corridors.specs.CorridorSets.{hangs_of, parents_of, hung_known}
 use Rattle.corridors.proofs.CorridorScreenScreen.room.Goals as goal
-
-pub least_left-requires : goal.least_left-requires
-least_left-requires c = record { falling = c.args.self.now.falling; known = rw c.corridor_of-corridor.ensures (c.args.self.now.hung _) }
 
 pub returns : goal.returns
 returns c =
-    least_is_room c.args.self.now.left c.args.self.now.hangs c.args.self.now.parents c.args.place (omega arith)
-    c.args.self.now.hung c.args.self.now.falling c.least_left.result c.least_left.ensures.few
-    (rw c.corridor_of-corridor.ensures at c.least_left.ensures.kept) (rw c.corridor_of-corridor.ensures at c.least_left.ensures.most)
+    let s = c.args.self.now in
+    let told = c.least_left.ensures in
+    let hung = c.node_of-corridor.ensures in
+    rw (← c.in-Ok.ensures)
+    (least_is_room s.corridors.left (hangs_of s) (parents_of s) c.in-Ok.place.number c.in-Ok.place.ok (hung_known s) s.tree.falling c.least_left.result
+    told.few (rw hung at told.kept) (rw hung at told.most))

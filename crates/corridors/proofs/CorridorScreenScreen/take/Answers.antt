@@ -1,23 +1,19 @@
-use Rattle.std.proofs.Common.{refl, arith, rules}
-use Rattle.screen.specs.Rooms.{take_within}
-use Rattle.corridors.specs.ByCorridor.{by_corridor}
+use Rattle.std.proofs.Common.{◌≤◌, arith}
+use Rattle.screen.specs.Meaning.{room_at}
 use Rattle.corridors.specs.Rooms.{lowered_is_taken, room_is_left}
+use Rattle.corridors.specs.CorridorSets.{hangs_of, parents_of, ontop_of, hung_known}
 use Rattle.corridors.proofs.CorridorScreenScreen.take.Goals as goal
 
 pub lower_left-requires : goal.lower_left-requires
 lower_left-requires c =
-    rw c.corridor_of-corridor.ensures
-    record {
-      falling = c.args.self.now.falling;
-      known = c.args.self.now.hung _;
-      enough = room_is_left c.args.self.now.left c.args.self.now.hangs c.args.self.now.parents c.args.place c.args.quantity (omega arith) c.args.self.now.hung c.args.self.now.falling (omega arith);
-    }
+    let s = c.args.self.now in
+    let p = c.in_ok-at.at in
+    let le : c.args.quantity ≤ room_at (ontop_of s) p.number = rw c.in_ok-at.ensures (omega arith) in
+    rw c.node_of-corridor.ensures (room_is_left s.corridors.left (hangs_of s) (parents_of s) p.number c.args.quantity p.ok (hung_known s) s.tree.falling le)
 
-pub returns : goal.returns
-returns c =
-    record {
-      answer = take_within (by_corridor c.args.self.now.left c.args.self.now.hangs c.args.self.now.parents) c.args.place c.args.quantity (omega arith) (omega arith);
-      taken = λ _. lowered_is_taken c.args.self.now.left c.args.self.now.hangs c.args.self.now.parents c.args.place (omega arith) c.lower_left.new.left c.args.quantity (rw c.corridor_of-corridor.ensures at c.lower_left.ensures);
-      set = refl;
-      declined = search rules;
-    }
+pub returns-clause-taken : goal.returns-clause-taken
+returns-clause-taken c =
+    let s = c.args.self.now in
+    let p = c.in_ok-at.at in
+    λ _. rw (← c.in_ok-at.ensures)
+    (lowered_is_taken s.corridors.left (hangs_of s) (parents_of s) p.number p.ok c.lower_left.new.left c.args.quantity (rw c.node_of-corridor.ensures at c.lower_left.ensures))

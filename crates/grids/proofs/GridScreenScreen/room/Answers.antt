@@ -4,5 +4,5 @@ use Rattle.grids.proofs.GridScreenScreen.room.Goals as goal
 
 pub returns : goal.returns
 returns c =
-    c.min.ensures
-    ∙ sym (grid_room c.args.self.now c.args.place c.grid_of-grid.result (omega arith) c.grid_of-grid.ensures.hung c.grid_of-grid.ensures.known)
+    let s = c.args.self.now in
+    c.min.ensures ∙ rw c.from.ensures (sym (grid_room s c.args.place c.node_of-grid.result.number (omega arith) (rw c.in-Ok.ensures at c.node_of-grid.ensures) c.node_of-grid.result.ok))

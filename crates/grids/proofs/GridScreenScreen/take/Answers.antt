@@ -1,19 +1,17 @@
-use Rattle.std.proofs.Common.{refl, arith, rules}
-use Rattle.screen.specs.Rooms.{take_within}
-use Rattle.grids.specs.GridSets.{ontop_of}
+use Rattle.std.proofs.Common.{◌<◌, arith}
 use Rattle.grids.specs.Grids.{room_keeps_left, grid_take}
 use Rattle.grids.proofs.GridScreenScreen.take.Goals as goal
 
 pub overflow_sub-self : goal.overflow_sub-self
 overflow_sub-self c =
-    room_keeps_left c.args.self.now c.args.place c.grid_of-grid.result (omega arith) c.grid_of-grid.ensures.hung
-    c.args.quantity c.grid_of-grid.ensures.known (omega arith)
+    rw c.from.ensures
+    (room_keeps_left c.args.self.now c.args.place c.node_of-grid.result.number (omega arith) (rw c.in_ok-at.ensures at c.node_of-grid.ensures)
+    c.args.quantity c.node_of-grid.result.ok (omega arith))
 
-pub returns : goal.returns
-returns c =
-    record {
-      answer = take_within (ontop_of c.args.self.now) c.args.place c.args.quantity (omega arith) (omega arith);
-      taken = λ _. grid_take c.args.self.now c.args.place c.grid_of-grid.result (omega arith) c.grid_of-grid.ensures.hung c.args.quantity (omega arith) (overflow_sub-self c);
-      set = refl;
-      declined = search rules;
-    }
+pub returns-clause-taken : goal.returns-clause-taken
+returns-clause-taken c =
+    let s = c.args.self.now in
+    let g = c.node_of-grid.result.number in
+    let hung = rw c.in_ok-at.ensures at c.node_of-grid.ensures in
+    let inside : c.args.place < 256 = omega (arith, c.in_ok-at.ensures, c.in_ok-at.at.ok) in
+    λ _. rw c.from.ensures (grid_take s c.args.place g inside hung c.args.quantity (room_keeps_left s c.args.place g inside hung c.args.quantity c.node_of-grid.result.ok (omega arith)))

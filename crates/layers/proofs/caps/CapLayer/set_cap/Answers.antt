@@ -1,5 +1,0 @@
-use Rattle.std.proofs.Common.{rules}
-use Rattle.layers.proofs.caps.CapLayer.set_cap.Goals as goal
-
-pub returns : goal.returns
-returns g c = let decided = g.met.S.Screen.decided in search rules
