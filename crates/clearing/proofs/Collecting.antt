@@ -177,7 +177,8 @@ sequence_ranked e ts us h sh ranked =
           (λ q. let no : ⊥ = omega (arith, apart i j d (omega arith) lj q) in no);
       each = λ i d l. let s = stands i d (omega arith) l in (s.1, s.2, s.3);
       placed = λ i d l. (stands i d (omega arith) l).0;
-      all = λ p l c.
+      from = λ i d l. omega arith;
+      all = λ p l c _.
           let s = h.all p l c in
           let first = some_tier ts s.0 s.1 in
           let k = has_shuffled ts us (get_or ts s.0 first) sh (has_get_or ts s.0 first s.1) in
@@ -186,4 +187,4 @@ sequence_ranked e ts us h sh ranked =
 
 -- The sellers' side is all that the sequence reads of the entries.
 pub sequence_of_entries : (e : PointEntries) (ts : List Tier) → Sequence (sellers_of e.tiers) ts → Sequence (entries_of e) ts
-sequence_of_entries e ts s = record { rising = s.rising; each = s.each; placed = s.placed; all = s.all }
+sequence_of_entries e ts s = record { rising = s.rising; each = s.each; placed = s.placed; from = s.from; all = s.all }

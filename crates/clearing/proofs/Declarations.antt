@@ -1,5 +1,5 @@
 -- What the tables declare, from bid to bid.
-use Rattle.std.proofs.Common.{◌≡◌, ℕ, suc, ◌+◌, ◌-◌, ◌*◌, ◌<◌, ◌≤◌, true, false, List, length, get_or, set, replicate, Some, None, sum, Option, sym, refl, ap, ◌∙◌, subst, inl, inr, arith}
+use Rattle.std.proofs.Common.{◌≡◌, ℕ, suc, ◌+◌, ◌-◌, ◌*◌, ◌<◌, ◌≤◌, true, false, List, length, get_or, set, replicate, sum, sym, refl, ap, ◌∙◌, subst, inl, inr, arith}
 use mathlib.Core.Path.{fun_ext}
 use lib.ListN.{length-replicate, get_or-replicate}
 use Rattle.std.proofs.lemmas.List.{get_or-set_same, get_or-set_other, get_or_past}
@@ -9,16 +9,15 @@ use Rattle.lawful.specs.Lawful.{Lawful, above}
 use Rattle.lawful.proofs.Sums.{sum_bound}
 use Rattle.market.specs.Sharing.{shares_of}
 use Rattle.market.specs.declared.tiers.Tier.{Tier}
-use Rattle.market.specs.declared.tiers.Bid.{Bid}
 use Rattle.outcome.specs.Entries.{Entries, Ranged, some_bids}
 use Rattle.outcome.specs.Groups.{total}
 use Rattle.outcome.specs.Outcome.{Outcome, Swept, start, sweep, claims, segment, segments_below}
-use Rattle.outcome.specs.View.{figure_of, entries_of}
+use Rattle.outcome.specs.View.{entries_of}
 use Rattle.outcome.specs.declared.PointEntries.{PointEntries}
 use Rattle.outcome.proofs.Cleared.{cleared_below}
 use Rattle.outcome.proofs.Segments.{at_same, at_other}
 use Rattle.clearing.specs.Awarded.{award_of}
-use Rattle.clearing.specs.Sequence.{CutAt, buyers_of, swept_from}
+use Rattle.clearing.specs.Sequence.{Sequence, SequenceFrom, buyers_of, swept_from}
 use Rattle.clearing.specs.Declaration.{SegmentOf, Declares, blank_segment}
 use Rattle.clearing.specs.Progress.{Reached}
 use Rattle.clearing.specs.declared.points.Segment.{Segment}
@@ -57,27 +56,24 @@ declares_between e n b o c le none d = record {
 
 -- The same of what is reached.
 pub reached_between :
-    (A : AwardSet) (e : Entries) (n b : ℕ) (ts : List Tier) (i : ℕ) (c : Cleared)
-    → n ≤ b → ((k : ℕ) → n ≤ k → k < b → some_bids e k ≡ false) → Reached A e n ts i c → Reached A e b ts i c
-reached_between A e n b ts i c le none r =
+    (A : AwardSet) (e : Entries) (n b : ℕ) (ts : List Tier) (c : Cleared)
+    → n ≤ b → ((k : ℕ) → n ≤ k → k < b → some_bids e k ≡ false) → Reached A e n ts c → Reached A e b ts c
+reached_between A e n b ts c le none r =
     let same : segments_below A e n ≡ segments_below A e b = sym (segments_between A e n b le none) in
     record {
       declared = subst (λ o. Declares e b o c) same (declares_between e n b (segments_below A e n) c le none r.declared);
-      cut = subst (λ o. CutAt ts i o.next) same r.cut;
+      above = subst (λ o. SequenceFrom e o.next ts) same r.above;
       counted = omega (arith, r.counted, bidders_grow e n b le);
-      long = r.long;
     }
 
 -- Empty tables declare what is there before the first bid.
 pub reached_none :
-    (A : AwardSet) (e : Entries) (ts : List Tier) (c : Cleared) → ((p : ℕ) → get_or c.awards p 0 ≡ 0) → ((g : ℕ) → get_or c.got g 0 ≡ 0) → c.count ≡ 0
-    → ((k : ℕ) (d : Segment) → k < 16 → get_or c.segments k d ≡ blank_segment)
-    → (length c.awards ≡ 256) × (length c.got ≡ 16) × (length c.segments ≡ 16) → Reached A e 0 ts 0 c
-reached_none A e ts c awards got none blank long = record {
+    (A : AwardSet) (e : Entries) (ts : List Tier) (c : Cleared) → Sequence e ts → ((p : ℕ) → get_or c.awards p 0 ≡ 0) → ((g : ℕ) → get_or c.got g 0 ≡ 0) → c.count ≡ 0
+    → ((k : ℕ) (d : Segment) → k < 16 → get_or c.segments k d ≡ blank_segment) → Reached A e 0 ts c
+reached_none A e ts c s awards got none blank = record {
   declared = subst (λ o. Declares e 0 o c) (sym (segments_none A e)) first;
-  cut = subst (λ o. CutAt ts 0 o.next) (sym (segments_none A e)) (record { lower = λ k d l m. absurd (omega arith); upper = λ k d l m. omega arith });
+  above = subst (λ o. SequenceFrom e o.next ts) (sym (segments_none A e)) s;
   counted = omega arith;
-  long = long;
 }
   where
     first : Declares e 0 start c
@@ -96,6 +92,7 @@ module _ (e : Entries) (b : ℕ) (o after : Outcome) (c : Cleared) (new : Segmen
     (was : Declares e b o c)
     (some : some_bids e b ≡ true)
     (room : c.count < 16)
+    (fits : c.count + 1 ≤ 16)
     (long : length c.segments ≡ 16)
     (others : (k : ℕ) → (k ≡ b → ⊥) → (after.quantity k ≡ o.quantity k) × (after.price k ≡ o.price k) × (after.share k ≡ o.share k))
     (here : new.bid ≡ b)
@@ -122,7 +119,7 @@ module _ (e : Entries) (b : ℕ) (o after : Outcome) (c : Cleared) (new : Segmen
         shares = λ g l. f.shares g l ∙ ap (λ h. h g) (sym same.2);
       }
 
-  pub declares_more : Declares e (suc b) after (record { awards = awards; got = got; segments = table; count = c.count + 1 })
+  pub declares_more : Declares e (suc b) after (record { awards = awards; got = got; segments = table; count = c.count + 1; few = fits })
   declares_more = record {
     awards = awards-are;
     got = got-are;
@@ -156,6 +153,7 @@ module _ (A : AwardSet) (e : Entries) (b : ℕ) (o : Outcome) (c : Cleared) (awa
     (was : Declares e b o c)
     (some : some_bids e b ≡ true)
     (room : c.count < 16)
+    (fits : c.count + 1 ≤ 16)
     (long : length c.segments ≡ 16)
     (wanted : wants ≡ claims e o.got b)
     (adds_up : want ≡ sum wants)
@@ -202,9 +200,9 @@ module _ (A : AwardSet) (e : Entries) (b : ℕ) (o : Outcome) (c : Cleared) (awa
 
   -- With it the tables declare one segment more.
   pub segment_declared :
-      Declares e (suc b) (segment A e b o) (record { awards = awards; got = got; segments = set c.segments c.count new; count = c.count + 1 })
+      Declares e (suc b) (segment A e b o) (record { awards = awards; got = got; segments = set c.segments c.count new; count = c.count + 1; few = fits })
   segment_declared =
-      declares_more e b o (segment A e b o) c new awards got was some room long
+      declares_more e b o (segment A e b o) c new awards got was some room fits long
       (λ k ne.
       (at_other b (total worked.award - total o.award) o.quantity k ne, at_other b worked.price o.price k ne, at_other b given o.share k ne))
       refl
@@ -214,35 +212,25 @@ module _ (A : AwardSet) (e : Entries) (b : ℕ) (o : Outcome) (c : Cleared) (awa
 
 -- The same of what is reached.
 pub reached_more :
-    (A : AwardSet) (e : Entries) (b : ℕ) (ts : List Tier) (i end : ℕ) (c after : Cleared) → Reached A e b ts i c → some_bids e b ≡ true
-    → Declares e (suc b) (segment A e b (segments_below A e b)) after → CutAt ts end (8 * suc b) → after.count ≡ c.count + 1
-    → (length after.awards ≡ 256) × (length after.got ≡ 16) × (length after.segments ≡ 16) → Reached A e (suc b) ts end after
-reached_more A e b ts i end c after r some declared cut one_more long =
+    (A : AwardSet) (e : Entries) (b : ℕ) (ts left : List Tier) (c after : Cleared) → Reached A e b ts c → some_bids e b ≡ true
+    → Declares e (suc b) (segment A e b (segments_below A e b)) after → SequenceFrom e (8 * suc b) left → after.count ≡ c.count + 1 → Reached A e (suc b) left after
+reached_more A e b ts left c after r some declared above one_more =
     let same : segment A e b (segments_below A e b) ≡ segments_below A e (suc b) = sym (segments_more A e b some) in
     record {
       declared = subst (λ o. Declares e (suc b) o after) same declared;
-      cut = subst (λ o. CutAt ts end o.next) same cut;
+      above = subst (λ o. SequenceFrom e o.next left) same above;
       counted = omega (arith, r.counted, bidders_more e b some);
-      long = long;
     }
 
 -- There is room for one segment more.
-pub segment_fits : (A : AwardSet) (e : Entries) (b : ℕ) (ts : List Tier) (i : ℕ) (c : Cleared) → Reached A e b ts i c → some_bids e b ≡ true → c.count < 16
-segment_fits A e b ts i c r some = omega (arith, r.counted, bidders_more e b some, bidders_few e (suc b))
+pub segment_fits : (A : AwardSet) (e : Entries) (b : ℕ) (ts : List Tier) (c : Cleared) → Reached A e b ts c → some_bids e b ≡ true → c.count < 16
+segment_fits A e b ts c r some = omega (arith, r.counted, bidders_more e b some, bidders_few e (suc b))
 
 -- The awards so far are small.
 pub awards_small :
-    (A : AwardSet) (e : Entries) (b : ℕ) (ts : List Tier) (i : ℕ) (c : Cleared) → Lawful 256 A → Ranged e → Reached A e b ts i c → total (award_of c.awards) ≤ 20000 * 256
-awards_small A e b ts i c laws ranged r =
+    (A : AwardSet) (e : Entries) (b : ℕ) (ts : List Tier) (c : Cleared) → Lawful 256 A → Ranged e → Reached A e b ts c → total (award_of c.awards) ≤ 20000 * 256
+awards_small A e b ts c laws ranged r =
     sum_bound 256 20000 (award_of c.awards) (λ p l. omega (arith, r.declared.awards p, (cleared_below A e laws ranged b).kept p, ranged.capacities p))
-
--- The needs of a point's buyers are small.
-pub needs_small : (e : PointEntries) (g : ℕ) → (entries_of e).need g ≤ 200000
-needs_small e g = small (get_or e.bids g None)
-  where
-    small : (slot : Option Bid) → figure_of (λ b. b.need) slot ≤ 200000
-    small None = omega arith
-    small (Some bid) = bid.small
 
 -- Written from the table of bids, the wants are the claims of the entries.
 pub wants_are_claims :
@@ -260,10 +248,10 @@ wants_small e got wants b written g = rw written (claim_bounded (buyers_of e.bid
 
 -- What the grids got so far is within their needs.
 pub got_small :
-    (A : AwardSet) (e : Entries) (b : ℕ) (ts : List Tier) (i : ℕ) (c : Cleared) → Lawful 256 A → Ranged e → Reached A e b ts i c
+    (A : AwardSet) (e : Entries) (b : ℕ) (ts : List Tier) (c : Cleared) → Lawful 256 A → Ranged e → Reached A e b ts c → length c.got ≡ 16
     → (g : ℕ) → get_or c.got g 0 ≤ e.need g
-got_small A e b ts i c laws ranged r g =
+got_small A e b ts c laws ranged r long g =
     elim (cases_lt g 16) [
       | inl l ↦ omega (arith, r.declared.got g l, (cleared_below A e laws ranged b).served g l)
-      | inr past ↦ omega (arith, get_or_past c.got g 0 (omega (arith, r.long.1)))
+      | inr past ↦ omega (arith, get_or_past c.got g 0 (omega (arith, long)))
     ]

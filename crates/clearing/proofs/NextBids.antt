@@ -1,70 +1,94 @@
--- The least bid at or above a price, grid by grid.
-use Rattle.std.proofs.Common.{◌≡◌, ℕ, ◌+◌, ◌<◌, ◌≤◌, min, Bool, true, false, ◌&&◌, ◌||◌, eqb, ltb, List, get_or, Some, None, Option, refl, ap, ◌∙◌, subst, inl, inr, add-one, arith, MatchOption}
-use Rattle.std.proofs.lemmas.Bool.{cases_lt, or_from, or_left, or_right, and_from, and_left, and_right, lt-ltb, le-ltb, eq-eqb, ne_eqb}
-use Rattle.outcome.specs.Entries.{Entries, any_below}
-use Rattle.outcome.specs.View.{figure_of}
+-- The next bid is the least price at or above a number in the table of bids.
+use Rattle.std.proofs.Common.{◌≡◌, ℕ, zero, suc, ◌<◌, ◌≤◌, min, true, false, ◌&&◌, ltb, leb, ◌⊎◌, List, [], ◌∷◌, length, get_or, Some, None, Option, is_some, MatchOption, unwrap_or, sym, refl, ap, ◌∙◌, subst, inl, inr, arith}
+use Rattle.std.specs.List.{fold, filter_map, reduce, cons_option}
+use Rattle.std.proofs.lemmas.Bool.{cases_Bool, cases_lt, and_parts, lt-ltb, ltb-true, le-leb, leb-true, both_ways}
 use Rattle.market.specs.declared.tiers.Bid.{Bid}
-use Rattle.clearing.specs.Sequence.{some_of, NextOf, buyers_of}
+use Rattle.outcome.specs.Entries.{some_bids}
+use Rattle.outcome.specs.View.{figure_of, entries_of}
+use Rattle.outcome.specs.declared.PointEntries.{PointEntries}
+use Rattle.outcome.proofs.Bids.{bidder, bid_of_lem}
+use Rattle.clearing.specs.Sequence.{NextBid, price_from}
+use Rattle.clearing.proofs.Runs.{In}
 
-any_more : (n : ℕ) (test : ℕ → Bool) → any_below (n + 1) test ≡ (test n || any_below n test)
-unfolding any_below
-any_more n test = rw add-one
+-- The least of x and ys is one of them, and none is below it.
+least_from : (x : ℕ) (ys : List ℕ) → In (fold min x ys) (x ∷ ys) × ((b : ℕ) → In b (x ∷ ys) → fold min x ys ≤ b)
+least_from x [] = (inl refl, λ b i. elim i [ inl e ↦ omega (arith, e) | inr j ↦ absurd j ])
+least_from x (y ∷ ys) =
+    let rest = least_from (min x y) ys in (
+      elim rest.0 [
+        | inl e ↦ elim (cases_lt x y) [ inl l ↦ inl (omega (arith, e)) | inr l ↦ inr (inl (omega (arith, e))) ]
+        | inr j ↦ inr (inr j)
+      ],
+      λ b i.
+          elim i [
+            | inl e ↦ omega (arith, rest.1 (min x y) (inl refl), e)
+            | inr j ↦ elim j [ inl e ↦ omega (arith, rest.1 (min x y) (inl refl), e) | inr k ↦ rest.1 b (inr k) ]
+          ],
+    )
 
--- the grid g bids b
-abbrev bids : Entries → ℕ → ℕ → Bool
-bids e g b = ltb 0 (e.need g) && eqb (e.bid g) b
+least_is : (ys : List ℕ) → MatchOption (reduce min ys) (ys ≡ []) (λ m. In m ys × ((b : ℕ) → In b ys → m ≤ b))
+least_is [] = refl
+least_is (y ∷ ys) = least_from y ys
 
-module _ (n : ℕ) (e : Entries) (from : ℕ) where
-  none_more : (b : ℕ) → bids e n b ≡ false → some_of n e b ≡ false → some_of (n + 1) e b ≡ false
-  none_more b here before = any_more n (λ g. bids e g b) ∙ or_from (bids e n b) (some_of n e b) here before
+module _ (h : Option Bid → Option ℕ) where
+  in_cons : (r : Option ℕ) (xs : List ℕ) (b : ℕ) → In b xs → In b (cons_option r xs)
+  in_cons None xs b i = i
+  in_cons (Some y) xs b i = inr i
 
-  some_before : (b : ℕ) → some_of n e b ≡ true → some_of (n + 1) e b ≡ true
-  some_before b before = any_more n (λ g. bids e g b) ∙ or_right (bids e n b) (some_of n e b) before
+  -- What h gives of a slot stands in the list of all that it gives.
+  given_in : (bs : List (Option Bid)) (k b : ℕ) → k < length bs → h (get_or bs k None) ≡ Some b → In b (filter_map h bs)
+  given_in [] k b l e = absurd (let no : ⊥ = omega arith in no)
+  given_in (o ∷ bs) zero b l e = subst (λ r. In b (cons_option r (filter_map h bs))) (sym e) (inl refl)
+  given_in (o ∷ bs) (suc k) b l e = in_cons (h o) (filter_map h bs) b (given_in bs k b (omega arith) e)
 
-  some_here : (b : ℕ) → bids e n b ≡ true → some_of (n + 1) e b ≡ true
-  some_here b here = any_more n (λ g. bids e g b) ∙ or_left (bids e n b) (some_of n e b) here
+  from_cons : (r : Option ℕ) (xs : List ℕ) (b : ℕ) → In b (cons_option r xs) → (r ≡ Some b) ⊎ In b xs
+  from_cons None xs b i = inr i
+  from_cons (Some y) xs b (inl e) = inl (ap Some (sym e))
+  from_cons (Some y) xs b (inr i) = inr i
 
-  bids_not : (b : ℕ) → (e.bid n ≡ b → ⊥) → bids e n b ≡ false
-  bids_not b h = and_right (ltb 0 (e.need n)) (eqb (e.bid n) b) (ne_eqb (e.bid n) b h)
-
-  bids_its : 0 < e.need n → bids e n (e.bid n) ≡ true
-  bids_its h = and_from (ltb 0 (e.need n)) (eqb (e.bid n) (e.bid n)) (lt-ltb 0 (e.need n) h) (eq-eqb (e.bid n) (e.bid n) refl)
-
-  next_skips : (r : Option ℕ) → ((b : ℕ) → from ≤ b → bids e n b ≡ false) → NextOf n e from r → NextOf (n + 1) e from r
-  next_skips None here h = λ b l. none_more b (here b l) (h b l)
-  next_skips (Some x) here h = (h.0, some_before x h.1, λ b l m. none_more b (here b l) (h.2 b l m))
-
-  -- a grid with no need, or with a bid below the price, changes nothing
-  next_without : (r : Option ℕ) → e.need n ≡ 0 → NextOf n e from r → NextOf (n + 1) e from r
-  next_without r z h = next_skips r (λ b l. and_left (ltb 0 (e.need n)) (eqb (e.bid n) b) (le-ltb 0 (e.need n) (omega arith))) h
-
-  next_lower : (r : Option ℕ) → e.bid n < from → NextOf n e from r → NextOf (n + 1) e from r
-  next_lower r z h = next_skips r (λ b l. bids_not b (λ q. let no : ⊥ = omega arith in no)) h
-
-  -- a grid with a need and a bid at or above the price gives the least of its bid and those before
-  next_takes : (r : Option ℕ) (x : ℕ) → 0 < e.need n → from ≤ e.bid n → MatchOption r (x ≡ e.bid n) (λ b. x ≡ min b (e.bid n)) → NextOf n e from r → NextOf (n + 1) e from (Some x)
-  next_takes None x pos le q h =
-      (omega arith, rw q (some_here (e.bid n) (bids_its pos)), λ b l m. none_more b (bids_not b (λ s. let no : ⊥ = omega arith in no)) (h b l))
-  next_takes (Some y) x pos le q h =
-      elim (cases_lt y (e.bid n)) [
-        | inl s ↦
-            let p : x ≡ y = omega arith in
-            (omega (arith, h.0), rw p (some_before y h.1), λ b l m. none_more b (bids_not b (λ s. let no : ⊥ = omega arith in no)) (h.2 b l (omega arith)))
-        | inr s ↦
-            let p : x ≡ e.bid n = omega arith in
-            (omega arith, rw p (some_here (e.bid n) (bids_its pos)), λ b l m. none_more b (bids_not b (λ s. let no : ⊥ = omega arith in no)) (h.2 b l (omega arith)))
+  in_given : (bs : List (Option Bid)) (b : ℕ) → In b (filter_map h bs) → (k : ℕ) × (k < length bs) × (h (get_or bs k None) ≡ Some b)
+  in_given [] b i = absurd i
+  in_given (o ∷ bs) b i =
+      elim (from_cons (h o) (filter_map h bs) b i) [
+        | inl e ↦ (0, omega arith, e)
+        | inr j ↦ let d = in_given bs b j in (suc d.0, omega (arith, d.1), d.2)
       ]
 
--- A table of bids, one grid further, by what stands there.
-module _ (table : List (Option Bid)) (n from : ℕ) (r r' : Option ℕ) (h : NextOf n (buyers_of table) from r) where
-  pub next_bid_taken : (b : Bid) (x : ℕ) → Some b ≡ get_or table n None → r' ≡ Some x → 0 < b.need → from ≤ b.price.fen → MatchOption r (x ≡ b.price.fen) (λ y. x ≡ min y b.price.fen) → NextOf (n + 1) (buyers_of table) from r'
-  next_bid_taken b x there er pos le q =
-      let need = ap (figure_of (λ z. z.need)) there in
-      let bid = ap (figure_of (λ z. z.price.fen)) there in
-      rw er (next_takes n (buyers_of table) from r x (omega (arith, need)) (omega (arith, bid)) (subst (λ v. MatchOption r (x ≡ v) (λ y. x ≡ min y v)) bid q) h)
+-- A slot gives a price just where it has a need and bids that price, at or above `from`.
+price_given : (from : ℕ) (o : Option Bid) → 0 < figure_of (λ b. b.need) o → from ≤ figure_of (λ b. b.price.fen) o → price_from from o ≡ Some (figure_of (λ b. b.price.fen) o)
+price_given from None need high = absurd (let no : ⊥ = omega arith in no)
+price_given from (Some b) need high = rw (lt-ltb 0 b.need need, le-leb from b.price.fen high) refl
 
-  pub next_bid_without : (o : Option Bid) → o ≡ get_or table n None → r' ≡ r → figure_of (λ z. z.need) o ≤ 0 → NextOf (n + 1) (buyers_of table) from r'
-  next_bid_without o there er z = rw er (next_without n (buyers_of table) from r (omega (arith, ap (figure_of (λ z. z.need)) there)) h)
+price_told : (from : ℕ) (o : Option Bid) (m : ℕ) → price_from from o ≡ Some m → (0 < figure_of (λ b. b.need) o) × (from ≤ m) × (figure_of (λ b. b.price.fen) o ≡ m)
+price_told from None m e = absurd (both_ways true (sym (ap is_some e)) refl)
+price_told from (Some b) m e =
+    elim (cases_Bool (ltb 0 b.need && leb from b.price.fen)) [
+      | inl t ↦
+          let parts = and_parts (ltb 0 b.need) (leb from b.price.fen) t in
+          let price : b.price.fen ≡ m = ap (λ r. unwrap_or r 0) (rw t at e) in
+          (ltb-true 0 b.need parts.0, omega (arith, leb-true from b.price.fen parts.1, price), price)
+      | inr f ↦ absurd (both_ways true (sym (ap is_some (rw f at e))) refl)
+    ]
 
-  pub next_bid_lower : (b : Bid) → Some b ≡ get_or table n None → r' ≡ r → b.price.fen < from → NextOf (n + 1) (buyers_of table) from r'
-  next_bid_lower b there er l = rw er (next_lower n (buyers_of table) from r (omega (arith, ap (figure_of (λ z. z.price.fen)) there)) h)
+module _ (e : PointEntries) (long : length e.bids ≡ 16) (from : ℕ) where
+  -- A bid at or above `from` is among the prices given.
+  bid_given : (b : ℕ) → from ≤ b → some_bids (entries_of e) b ≡ true → In b (filter_map (price_from from) e.bids)
+  bid_given b low some =
+      let d = bidder (entries_of e) b some in
+      let slot = get_or e.bids d.0 None in
+      given_in (price_from from) e.bids d.0 b (omega (arith, d.1, long)) (price_given from slot d.2 (omega (arith, d.3)) ∙ ap Some d.3)
+
+  none_bids : (b : ℕ) → (In b (filter_map (price_from from) e.bids) → ⊥) → from ≤ b → some_bids (entries_of e) b ≡ false
+  none_bids b not-in low = elim (cases_Bool (some_bids (entries_of e) b)) [ inl some ↦ absurd (not-in (bid_given b low some)) | inr none ↦ none ]
+
+  next_is : (r : Option ℕ) → MatchOption r (filter_map (price_from from) e.bids ≡ []) (λ m. In m (filter_map (price_from from) e.bids) × ((b : ℕ) → In b (filter_map (price_from from) e.bids) → m ≤ b)) → NextBid (entries_of e) from r
+  next_is None none = λ b low. none_bids b (λ i. rw none at i) low
+  next_is (Some m) least =
+      let d = in_given (price_from from) e.bids m least.0 in
+      let told = price_told from (get_or e.bids d.0 None) m d.2 in
+      let some = bid_of_lem (entries_of e) d.0 (omega (arith, d.1, long)) told.0 in
+      (told.1, ap (some_bids (entries_of e)) (sym told.2) ∙ some, λ c low high. none_bids c (λ i. let no : ⊥ = omega (arith, least.1 c i) in no) low)
+
+  -- The least price that the table gives is the next bid.
+  pub next_bid_is : (r : Option ℕ) → r ≡ reduce min (filter_map (price_from from) e.bids) → NextBid (entries_of e) from r
+  next_bid_is r is = rw is (next_is (reduce min (filter_map (price_from from) e.bids)) (least_is (filter_map (price_from from) e.bids)))

@@ -1,8 +1,9 @@
 -- The entries of a point are within their maxima.
 use Rattle.std.proofs.Common.{ℕ, ◌≤◌, get_or, Some, None, Option, arith}
 use Rattle.market.specs.Classes.{class_number}
-use Rattle.market.specs.Maxima.{max_figure, max_price}
+use Rattle.market.specs.Maxima.{max_figure, max_need, max_price}
 use Rattle.market.specs.declared.tiers.Tier.{Tier}
+use Rattle.market.specs.declared.tiers.Bid.{Bid}
 use Rattle.outcome.specs.Entries.{Ranged}
 use Rattle.outcome.specs.View.{figure_of, entries_of}
 use Rattle.outcome.specs.declared.PointEntries.{PointEntries}
@@ -20,3 +21,7 @@ entries_ranged e =
       classes = λ p. omega (arith, figure_within (λ (t : Tier). class_number t.class) 7 (λ t. omega (arith, class_small t.class)) (get_or e.tiers p None));
       bids = λ g. figure_within (λ b. b.price.fen) max_price (λ b. b.price.ok) (get_or e.bids g None);
     }
+
+-- What a grid needs is within the maximum, whatever stands in a table of bids.
+pub need_within : (slot : Option Bid) → figure_of (λ b. b.need) slot ≤ max_need
+need_within slot = figure_within (λ (b : Bid). b.need) max_need (λ b. b.small) slot

@@ -1,16 +1,15 @@
 -- The sellers' sequence swept level by level, from the group at one level to the next.
-use Rattle.std.proofs.Common.{◌≡◌, ℕ, zero, suc, ◌+◌, ◌-◌, ◌*◌, ◌/◌, ◌<◌, ◌≤◌, cond, ltb, ◌⊎◌, List, [], length, get_or, sym, ap, ◌∙◌, inl, inr, add-zero, add-suc, arith}
-use Rattle.std.specs.List.{between}
-use Rattle.std.proofs.lemmas.Bool.{cases_lt, le-ltb}
+use Rattle.std.proofs.Common.{◌≡◌, ℕ, zero, suc, ◌+◌, ◌-◌, ◌*◌, ◌/◌, ◌<◌, ◌≤◌, cond, ltb, ◌⊎◌, List, [], length, get_or, take, drop, sym, ap, ◌∙◌, add-zero, add-suc, arith}
+use Rattle.std.proofs.lemmas.Bool.{le-ltb}
 use Rattle.lawful.specs.Awards.{Award, AwardSet}
 use Rattle.market.specs.declared.tiers.Tier.{Tier}
 use Rattle.outcome.specs.Entries.{Entries}
 use Rattle.outcome.specs.Groups.{total, members, first_round, second_round, work_tiers, work_group}
 use Rattle.outcome.specs.Outcome.{Swept, sweep}
 use Rattle.clearing.specs.Awarded.{places_of, capacities_of}
-use Rattle.clearing.specs.Sequence.{Sequence, CutAt, level_of, swept_from}
+use Rattle.clearing.specs.Sequence.{SequenceFrom, level_of, swept_from}
 use Rattle.clearing.proofs.Collecting.{class_small, some_tier}
-use Rattle.clearing.proofs.Runs.{levels_rise, no_members, run_is_members, run_capacities, below_end, above_end}
+use Rattle.clearing.proofs.Runs.{levels_rise, no_members, run_is_members, run_capacities, run_leaves, above_end}
 
 -- what the group at a level makes of an award and a price
 abbrev after_group : Swept → ℕ → Award → Swept
@@ -50,102 +49,69 @@ module _ (A : AwardSet) (e : Entries) (goal : ℕ) where
         let n-is : n ≡ m + (n - m) = omega arith in
         ap (λ k. sweep A e goal low (k - low) s) n-is ∙ sweep_skips m (n - m) le (λ l a b. none l a (omega arith))
 
--- The sequence is worked up to the index `at`, from the level `low` on: no tier there is tied with one before it,
--- and a sweep up to any level that cuts the sequence there yields the award and the price.
-pub record WorkedTo (A : AwardSet) (e : Entries) (goal : ℕ) (ts : List Tier) (low : ℕ) (start : Award) (at : ℕ) (z : Award) (price : ℕ) : Type 0 where
-  pub parted : (k j : ℕ) (d : Tier) → k < at → at ≤ j → j < length ts → level_of (get_or ts k d) < level_of (get_or ts j d)
-  pub swept : (m : ℕ) → low ≤ m → CutAt ts at m → sweep A e goal low (m - low) (swept_from start 0) ≡ swept_from z price
+-- The groups from the level `low` on are worked up to some level, at most `top`: the award and the price are those of the sweep, and the tiers above are left.
+pub record WorkedTo (A : AwardSet) (e : Entries) (goal low top : ℕ) (start : Award) (left : List Tier) (z : Award) (price : ℕ) : Type 0 where
+  pub level : ℕ
+  pub from : low ≤ level
+  pub within : level ≤ top
+  pub above : SequenceFrom e level left
+  pub swept : sweep A e goal low (level - low) (swept_from start 0) ≡ swept_from z price
 
-module _ (A : AwardSet) (e : Entries) (goal : ℕ) (ts : List Tier) (s : Sequence e ts) (low : ℕ) (start : Award) where
-  -- Between two levels that cut the sequence at one index there is no member.
-  cuts_have_none : (i m n : ℕ) → CutAt ts i m → CutAt ts i n → (l : ℕ) → m ≤ l → l < n → members e l ≡ []
-  cuts_have_none i m n from to l a b =
-      no_members e ts l s (λ k d lk q. elim (cases_lt k i) [ inl p ↦ omega (arith, from.lower k d p lk) | inr p ↦ omega (arith, to.upper k d p lk) ])
-
+module _ (A : AwardSet) (e : Entries) (goal low top : ℕ) (start : Award) where
   -- At the start nothing is worked.
-  pub worked_none : (from : ℕ) → from ≤ length ts → CutAt ts from low → WorkedTo A e goal ts low start from start 0
+  pub worked_none : (ts : List Tier) → SequenceFrom e low ts → low ≤ top → WorkedTo A e goal low top start ts start 0
   unfolding sweep
-  worked_none from within cut =
+  worked_none ts s le =
       let none : low - low ≡ 0 = omega arith in
-      record {
-        parted = λ k j d lk lj in-ts. omega (arith, cut.lower k d lk (omega arith), cut.upper j d lj in-ts);
-        swept = λ m le to.
-            sweep_gap A e goal low (swept_from start 0) low m (omega arith) le (cuts_have_none from low m cut to) ∙ ap (λ n. sweep A e goal low n (swept_from start 0)) none;
-      }
+      record { level = low; from = omega arith; within = le; above = s; swept = ap (λ n. sweep A e goal low n (swept_from start 0)) none }
 
-  -- The run from i up to j, all at the level l, is worked next.
-  module _
-      (from i j l : ℕ) (cut : CutAt ts from low) (le : from ≤ i) (lt : i < j) (within : j ≤ length ts)
-      (at-l : (d : Tier) → level_of (get_or ts i d) ≡ l)
-      (same : (k : ℕ) (d : Tier) → i ≤ k → k < j → level_of (get_or ts k d) ≡ level_of (get_or ts i d))
-      (ends : (j ≡ length ts) ⊎ ((d : Tier) → level_of (get_or ts j d) ≡ level_of (get_or ts i d) → ⊥))
-      (z : Award) (price : ℕ) (so_far : WorkedTo A e goal ts low start i z price)
-    where
-      before : (k : ℕ) (d : Tier) → k < i → level_of (get_or ts k d) < l
-      before k d lk = omega (arith, so_far.parted k i d lk (omega arith) (omega arith), at-l d)
+  module _ (ts : List Tier) (z : Award) (price : ℕ) (so_far : WorkedTo A e goal low top start ts z price) where
+    -- Up to a level that every tier left reaches, a sweep takes nothing more.
+    sweep_on : (l : ℕ) → so_far.level ≤ l → ((k : ℕ) (d : Tier) → k < length ts → l ≤ level_of (get_or ts k d)) → sweep A e goal low (l - low) (swept_from start 0) ≡ swept_from z price
+    sweep_on l le reach =
+        sweep_gap A e goal low (swept_from start 0) so_far.level l so_far.from le
+        (λ n a b. no_members e so_far.level ts n so_far.above a (λ k d lk q. let no : ⊥ = omega (arith, reach k d lk) in no))
+        ∙ so_far.swept
 
-      here : (k : ℕ) (d : Tier) → i ≤ k → k < j → level_of (get_or ts k d) ≡ l
-      here k d a b = same k d a b ∙ at-l d
+    -- The group at the front, all at the level l, is worked next: what it takes, with the landed offer as the price if it took anything.
+    pub worked_run :
+        (j l : ℕ) → 0 < j → j ≤ length ts → l < top → ((d : Tier) → level_of (get_or ts 0 d) ≡ l)
+        → ((k : ℕ) (d : Tier) → k < j → level_of (get_or ts k d) ≡ level_of (get_or ts 0 d))
+        → (j ≡ length ts) ⊎ ((d : Tier) → level_of (get_or ts j d) ≡ level_of (get_or ts 0 d) → ⊥)
+        → (y : Award) (p : ℕ) → y ≡ work_tiers A goal (places_of (take j ts)) (capacities_of (take j ts)) z → p ≡ cond (ltb (total z) (total y)) (l / 8) price
+        → WorkedTo A e goal low top start (drop j ts) y p
+    worked_run j l lt within below at-l same ends y p y-is p-is =
+        let s = so_far.above in
+        let in-ts : 0 < length ts = omega arith in
+        let d = some_tier ts 0 in-ts in
+        let from-level : so_far.level ≤ l = omega (arith, s.from 0 d in-ts, at-l d) in
+        let here : (k : ℕ) (f : Tier) → k < j → level_of (get_or ts k f) ≡ l = λ k f lk. same k f lk ∙ at-l f in
+        let after = above_end e so_far.level ts s j l lt within at-l ends in
+        let reach : (k : ℕ) (f : Tier) → k < length ts → l ≤ level_of (get_or ts k f) = λ k f lk. omega (arith, levels_rise e so_far.level ts s 0 k f (omega arith) lk, at-l f) in
+        let places = run_is_members e so_far.level ts s j within l from-level here after in
+        let capacities = run_capacities e so_far.level ts s j within l from-level here after in
+        let run_is_group : work_tiers A goal (places_of (take j ts)) (capacities_of (take j ts)) z ≡ work_group A e goal l z =
+        ap (λ ps. work_tiers A goal ps (capacities_of (take j ts)) z) places ∙ ap (λ cs. work_tiers A goal (members e l) cs z) capacities in
+        record {
+          level = suc l;
+          from = omega (arith, from-level, so_far.from);
+          within = below;
+          above = run_leaves e so_far.level ts s j within l from-level here after;
+          swept =
+              sweep_group A e goal low (swept_from start 0) l (omega (arith, from-level, so_far.from))
+              ∙ ap (λ t. after_group t l (work_group A e goal l t.award)) (sweep_on l from-level reach)
+              ∙ ap (after_group (swept_from z price) l) (sym (y-is ∙ run_is_group))
+              ∙ ap (swept_from y) (sym p-is);
+        }
 
-      after : (k : ℕ) (d : Tier) → j ≤ k → k < length ts → l < level_of (get_or ts k d)
-      after = above_end e ts s i j l lt within at-l ends
-
-      all_up_to : (k : ℕ) (d : Tier) → k < j → level_of (get_or ts k d) < l + 1
-      all_up_to = below_end e ts s i j (omega arith) within l before here after
-
-      cut_before : CutAt ts i l
-      cut_before = record {
-        lower = λ k d lk _. before k d lk;
-        upper = λ k d a lk. omega (arith, levels_rise e ts s i k d a lk, at-l d);
-      }
-
-      cut_after : CutAt ts j (suc l)
-      cut_after = record { lower = λ k d lk _. omega (arith, all_up_to k d lk); upper = λ k d a lk. omega (arith, after k d a lk) }
-
-      from_low : low ≤ l
-      from_low =
-          let in-ts : i < length ts = omega arith in
-          let d = some_tier ts i in-ts in
-          omega (arith, cut.upper i d le in-ts, at-l d)
-
-      run_is_group : work_tiers A goal (places_of (between i j ts)) (capacities_of (between i j ts)) z ≡ work_group A e goal l z
-      run_is_group =
-          let places = run_is_members e ts s i j (omega arith) within l before here after in
-          let capacities = run_capacities e ts s i j (omega arith) within l before here after in
-          ap (λ ps. work_tiers A goal ps (capacities_of (between i j ts)) z) places ∙ ap (λ cs. work_tiers A goal (members e l) cs z) capacities
-
-      -- What the run takes, with the landed offer as the price if it took anything, is the sweep past its level.
-      pub worked_run :
-          (y : Award) (p : ℕ) → y ≡ work_tiers A goal (places_of (between i j ts)) (capacities_of (between i j ts)) z → p ≡ cond (ltb (total z) (total y)) (l / 8) price
-          → WorkedTo A e goal ts low start j y p
-      worked_run y p y-is p-is = record {
-        parted = λ k q d lk lq in-ts. omega (arith, all_up_to k d lk, after q d lq in-ts);
-        swept = λ m le-m to.
-            let in-ts : i < length ts = omega arith in
-            let d = some_tier ts i in-ts in
-            let higher : suc l ≤ m = omega (arith, to.lower i d lt in-ts, at-l d) in
-            let s0 = swept_from start 0 in
-            sweep_gap A e goal low s0 (suc l) m (omega (arith, from_low)) higher (cuts_have_none j (suc l) m cut_after to)
-            ∙ sweep_group A e goal low s0 l from_low
-            ∙ ap (λ t. after_group t l (work_group A e goal l t.award)) (so_far.swept l from_low cut_before)
-            ∙ ap (after_group (swept_from z price) l) (sym (y-is ∙ run_is_group))
-            ∙ ap (swept_from y) (sym p-is);
-      }
-
-  -- Where the tiers from `from` up to `at` land within the bid and the next does not, the segment of the bid is worked.
-  pub worked_to_bid :
-      (from at bid : ℕ) (z : Award) (price : ℕ) → CutAt ts from low → low ≤ 8 * suc bid
-      → ((k : ℕ) (d : Tier) → from ≤ k → k < at → level_of (get_or ts k d) < 8 * suc bid)
-      → ((d : Tier) → at < length ts → 8 * suc bid ≤ level_of (get_or ts at d))
-      → WorkedTo A e goal ts low start at z price
-      → CutAt ts at (8 * suc bid) × (sweep A e goal low (8 * suc bid - low) (swept_from start 0) ≡ swept_from z price)
-  worked_to_bid from at bid z price cut le inside outside worked =
-      let bid-cut : CutAt ts at (8 * suc bid) =
-      record {
-        lower = λ k d lk in-ts. elim (cases_lt k from) [ inl p ↦ omega (arith, cut.lower k d p in-ts) | inr p ↦ inside k d p lk ];
-        upper = λ k d a in-ts. omega (arith, outside d (omega arith), levels_rise e ts s at k d a in-ts);
-      } in
-      (bid-cut, worked.swept (8 * suc bid) le bid-cut)
+    -- Where the first tier left is at or above the top, all is worked.
+    pub worked_all : ((d : Tier) → 0 < length ts → top ≤ level_of (get_or ts 0 d)) → SequenceFrom e top ts × (sweep A e goal low (top - low) (swept_from start 0) ≡ swept_from z price)
+    worked_all first =
+        let s = so_far.above in
+        let reach : (k : ℕ) (d : Tier) → k < length ts → top ≤ level_of (get_or ts k d) = λ k d lk. omega (arith, levels_rise e so_far.level ts s 0 k d (omega arith) lk, first d (omega arith)) in (
+          record { rising = s.rising; each = s.each; placed = s.placed; from = reach; all = λ p lp c le. s.all p lp c (omega (arith, so_far.within)) },
+          sweep_on top so_far.within reach,
+        )
 
 -- The level of a tier tells its landed offer.
 pub level_landed : (t : Tier) → level_of t / 8 ≡ t.landed.fen

@@ -1,16 +1,13 @@
 -- One take: what it leaves of the award and of what is permitted on top.
-use Rattle.std.proofs.Common.{◌≡◌, ℕ, ◌+◌, ◌<◌, ◌≤◌, true, List, length, get_or, set, is_ok, None, Ok, Err, Result, sym, refl, ap, ◌∙◌, inl, inr, arith}
+use Rattle.std.proofs.Common.{◌≡◌, ℕ, ◌+◌, ◌<◌, List, length, get_or, set, sym, ap, ◌∙◌, inl, inr, arith}
 use mathlib.Core.Path.{fun_ext}
 use Rattle.std.proofs.lemmas.List.{get_or-set_same, get_or-set_other}
 use Rattle.std.proofs.lemmas.Bool.{cases_eq}
 use Rattle.lawful.specs.Awards.{Award, AwardSet, raise}
 use Rattle.lawful.specs.Lawful.{above}
 use Rattle.lawful.proofs.Awards.{raise_at, raise_elsewhere, sum_raise}
-use Rattle.market.specs.Rows.{topmost}
-use Rattle.market.specs.declared.refusals.ScreenRefusal.{ScreenRefusal}
 use Rattle.outcome.specs.Groups.{total}
-use Rattle.screen.specs.Meaning.{room_at, after_take, take_rows, answer_of}
-use Rattle.screen.specs.Rooms.{take_within}
+use Rattle.screen.specs.Meaning.{after_take}
 use Rattle.clearing.specs.Awarded.{award_of}
 
 -- What is taken on top of an award is permitted on top of the award so raised.
@@ -23,14 +20,6 @@ raised_list xs p q l = fun_ext (λ k. elim (cases_eq k p) [
   | inl e ↦ rw e (get_or-set_same xs p (get_or xs p 0 + q) 0 l ∙ sym (raise_at (award_of xs) p q))
   | inr ne ↦ get_or-set_other xs p k (get_or xs p 0 + q) 0 ne ∙ sym (raise_elsewhere (award_of xs) p q k ne)
 ])
-
-answered_ok : {X : Type 0} (r : Result X ScreenRefusal) → None ≡ answer_of r → is_ok r ≡ true
-answered_ok (Ok x) e = refl
-answered_ok (Err x) e = absurd (let z : ◌≡◌ {A = ℕ} 0 1 = cc in let no : ⊥ = omega arith in no)
-
--- A take within the room is accepted.
-pub accepted : {X : Type 0} (r : Result X ScreenRefusal) (A : AwardSet) (p q : ℕ) → p < 256 → q ≤ room_at A p → answer_of r ≡ topmost (take_rows A p q) → is_ok r ≡ true
-accepted r A p q h k e = answered_ok r (take_within A p q h k ∙ sym e)
 
 -- A take adds to the award's total.
 pub total_after : (z y : Award) (p q : ℕ) → p < 256 → y ≡ raise z p q → total y ≡ total z + q

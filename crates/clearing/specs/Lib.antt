@@ -1,4 +1,5 @@
 pub mod Awarded
+pub mod Steps
 pub mod Sequence
 pub mod Declaration
 pub mod Progress

@@ -1,10 +1,10 @@
 -- The sellers' sequence, and the bid that comes next.
-use Rattle.std.specs.Prelude.{◌≡◌, ℕ, ◌+◌, ◌-◌, ◌*◌, ◌<◌, ◌≤◌, Bool, true, false, cond, ◌&&◌, ◌⊎◌, List, length, get_or, None, Option, MatchOption, ◌==◌, nat_le, nat_lt, slice_index_or}
+use Rattle.std.specs.Prelude.{◌≡◌, ℕ, ◌+◌, ◌-◌, ◌*◌, ◌<◌, ◌≤◌, true, false, cond, ◌&&◌, ◌⊎◌, List, length, get_or, Some, None, Option, MatchOption, nat_le, nat_lt, slice_index_or}
 use Rattle.market.specs.Classes.{class_number}
 use Rattle.market.specs.Maxima.{place_count}
 use Rattle.market.specs.declared.tiers.Tier.{Tier}
 use Rattle.market.specs.declared.tiers.Bid.{Bid}
-use Rattle.outcome.specs.Entries.{Entries, level, any_below, some_bids}
+use Rattle.outcome.specs.Entries.{Entries, level, some_bids}
 use Rattle.lawful.specs.Awards.{Award}
 use Rattle.outcome.specs.Outcome.{Swept}
 use Rattle.outcome.specs.View.{figure_of}
@@ -16,12 +16,17 @@ level_of t = 8 * t.landed.fen + class_number t.class
 abbrev pub place_of : Tier → ℕ
 place_of t = t.place.number
 
--- The sellers' sequence: the tiers of the entries, each once, by level and then by place.
-pub record Sequence (e : Entries) (ts : List Tier) : Type 0 where
+-- The sellers' sequence from the level m on: the tiers of the entries at that level or above, each once, by level and then by place.
+pub record SequenceFrom (e : Entries) (m : ℕ) (ts : List Tier) : Type 0 where
   pub rising : (i j : ℕ) (d : Tier) → i < j → j < length ts → (level_of (slice_index_or ts i d) < level_of (slice_index_or ts j d)) ⊎ ((level_of (slice_index_or ts i d) ≡ level_of (slice_index_or ts j d)) × (place_of (slice_index_or ts i d) < place_of (slice_index_or ts j d)))
   pub each : (i : ℕ) (d : Tier) → i < length ts → (0 < (get_or ts i d).capacity) × ((get_or ts i d).capacity ≡ e.capacity (place_of (slice_index_or ts i d))) × (level_of (slice_index_or ts i d) ≡ level e (place_of (slice_index_or ts i d)))
   pub placed : (i : ℕ) (d : Tier) → i < length ts → place_of (slice_index_or ts i d) < place_count
-  pub all : (p : ℕ) → p < place_count → 0 < e.capacity p → (i : ℕ) × (i < length ts) × ((d : Tier) → place_of (slice_index_or ts i d) ≡ p)
+  pub from : (i : ℕ) (d : Tier) → i < length ts → m ≤ level_of (slice_index_or ts i d)
+  pub all : (p : ℕ) → p < place_count → 0 < e.capacity p → m ≤ level e p → (i : ℕ) × (i < length ts) × ((d : Tier) → place_of (slice_index_or ts i d) ≡ p)
+
+-- the whole sequence: every level is at or above 0
+abbrev pub Sequence : Entries → List Tier → Type 0
+Sequence e ts = SequenceFrom e 0 ts
 
 -- the sellers' side of the entries, and the buyers' side
 abbrev pub sellers_of : List (Option Tier) → Entries
@@ -54,24 +59,14 @@ NextBid e from r =
     MatchOption r ((b : ℕ) → from ≤ b → some_bids e b ≡ false)
     (λ b. (from ≤ b) × (some_bids e b ≡ true) × ((c : ℕ) → from ≤ c → c < b → some_bids e c ≡ false))
 
--- one of the first n grids bids b
-abbrev pub some_of : ℕ → Entries → ℕ → Bool
-some_of n e b = any_below n (λ g. nat_lt 0 (e.need g) && e.bid g == b)
-
--- the next bid among the first n grids
-abbrev pub NextOf : ℕ → Entries → ℕ → Option ℕ → Type 0
-NextOf n e from r =
-    MatchOption r ((b : ℕ) → from ≤ b → some_of n e b ≡ false)
-    (λ b. (from ≤ b) × (some_of n e b ≡ true) × ((c : ℕ) → from ≤ c → c < b → some_of n e c ≡ false))
+-- the price of a bid that has a need, where it is at or above `from`
+abbrev pub price_from : ℕ → Option Bid → Option ℕ
+price_from from None = None
+price_from from (Some b) = cond (nat_lt 0 b.need && nat_le from b.price.fen) (Some b.price.fen) None
 
 -- what a grid still needs in the segment at the bid b
 abbrev pub open_need : Option Bid → ℕ → ℕ → ℕ
 open_need slot got b = cond (nat_le b (figure_of (λ x. x.price.fen) slot)) (figure_of (λ x. x.need) slot - got) 0
-
--- The sequence is cut at the index i by the level m: the tiers before i are at lower levels, the others at m or above.
-pub record CutAt (ts : List Tier) (i m : ℕ) : Type 0 where
-  pub lower : (k : ℕ) (d : Tier) → k < i → k < length ts → level_of (slice_index_or ts k d) < m
-  pub upper : (k : ℕ) (d : Tier) → i ≤ k → k < length ts → m ≤ level_of (slice_index_or ts k d)
 
 -- an award with the price so far
 abbrev pub swept_from : Award → ℕ → Swept

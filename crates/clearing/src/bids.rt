@@ -1,36 +1,29 @@
 // The buyers' side of a point: the bids in rising order.
-ghost use Rattle.std.specs.Prelude.{◌≡◌, min, length, MatchOption};
+ghost use Rattle.std.specs.Prelude.{◌≡◌, min, length};
+ghost use Rattle.std.specs.List.{filter_map, reduce};
 ghost use Rattle.market.specs.Maxima.{grid_count};
 ghost use Rattle.outcome.specs.View.{entries_of};
-ghost use Rattle.clearing.specs.Sequence.{NextBid, buyers_of};
+ghost use Rattle.clearing.specs.Sequence.{NextBid, price_from};
 
 use market::tiers::Bid;
 use outcome::PointEntries;
 
-// The lesser of a price and the least so far, if there is one.
-fn least(so_far: Option<u32>, price: u32) -> u32
-    ensures { MatchOption so_far (result ≡ price) (λ b. result ≡ min b price) }
+// The price of a bid that has a need, where it is at or above `from`.
+fn price_from(slot: &Option<Bid>, from: u32) -> Option<u32>
+    ensures { result ≡ price_from from slot.now }
 {
-    match so_far {
-        Some(lowest) if lowest < price => lowest,
-        _ => price,
+    match slot {
+        Some(bid) if 0 < bid.need && from <= bid.price.fen => Some(bid.price.fen),
+        _ => None,
     }
 }
 
 // The least price at or above `from` that a grid with a need bids in the table, if one does.
-fn least_bid(bids: &[Option<Bid>], from: u32) -> Option<u32>
-    requires { length bids.now ≡ grid_count }
-    ensures { NextBid (buyers_of bids.now) from result }
+fn least_bid(bids: &[Option<Bid>; 16], from: u32) -> Option<u32>
+    ensures least { result ≡ reduce min (filter_map (price_from from) bids.now) }
+    ensures grids { length bids.now ≡ grid_count }
 {
-    let mut next: Option<u32> = None;
-    for slot in bids {
-        if let Some(bid) = slot {
-            if 0 < bid.need && from <= bid.price.fen {
-                next = Some(least(next, bid.price.fen));
-            }
-        }
-    }
-    next
+    bids.iter().filter_map(|slot| price_from(slot, from)).min()
 }
 
 // The least price at or above `from` that some grid bids, if one does.

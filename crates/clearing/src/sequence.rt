@@ -4,14 +4,55 @@ ghost use Rattle.market.specs.Maxima.{place_count};
 ghost use Rattle.outcome.specs.View.{entries_of};
 ghost use Rattle.clearing.specs.Sequence.{Sequence, Collected, sellers_of, level_of};
 
-use market::figures::Place;
+use market::classes::Class;
+use market::figures::{Charges, Offer, Place, Tariff};
 use market::ranking::put_in_rank;
 use market::tiers::Tier;
 use outcome::PointEntries;
 
+// The tiers with a capacity, in rank. They stand in the front of a table of fixed length, since no call of a clearing may need memory.
+#[derive(Drop)]
+pub(crate) struct RankedTiers {
+    table: [Tier; 256],
+    count: usize,
+    ghost few: { count ≤ place_count },
+}
+
+impl RankedTiers {
+    // The sellers' sequence of the entries.
+    pub(crate) fn new(entries: &PointEntries) -> RankedTiers
+        ensures sequence { Sequence (entries_of entries.now) (take result.count result.table) }
+    {
+        let mut table = [blank_tier(); 256];
+        let count = collect_tiers(&entries.tiers, &mut table);
+        put_in_rank(&mut table[..count]);
+        RankedTiers { table, count }
+    }
+
+    pub(crate) fn tiers(&self) -> &[Tier]
+        ensures tiers { result.now ≡ take self.now.count self.now.table }
+        ensures few { length result.now ≤ place_count }
+    {
+        &self.table[..self.count]
+    }
+}
+
+// A tier of no capacity, to fill the table with.
+fn blank_tier() -> Tier {
+    let charges = Charges {
+        grid: Tariff { fen: 0 },
+        branch: Tariff { fen: 0 },
+    };
+    Tier {
+        landed: Offer { yuan: 0 }.land(charges),
+        class: Class::Hydro,
+        place: Place { number: 0 },
+        capacity: 0,
+    }
+}
+
 // Collects the tiers with a capacity, by place, into the front of `ranked`, and answers how many there are.
-fn collect_tiers(tiers: &[Option<Tier>], ranked: &mut [Tier]) -> usize
-    requires { (length tiers.now ≡ place_count) × (length ranked.old ≡ place_count) }
+fn collect_tiers(tiers: &[Option<Tier>; 256], ranked: &mut [Tier; 256]) -> usize
     ensures within { result ≤ place_count }
     ensures collected { Collected (sellers_of tiers.now) place_count (take result ranked.new) }
 {
@@ -34,36 +75,24 @@ fn collect_tiers(tiers: &[Option<Tier>], ranked: &mut [Tier]) -> usize
     count
 }
 
-// Forms the sellers' sequence in the front of `ranked`, and answers how many tiers it has.
-pub(crate) fn form_sequence(entries: &PointEntries, ranked: &mut [Tier]) -> usize
-    requires { length ranked.old ≡ place_count }
-    ensures within { result ≤ place_count }
-    ensures sequence { Sequence (entries_of entries.now) (take result ranked.new) }
+// The level of a tier: one number, as the definitions have it, that tiers of one landed offer and class share.
+fn level_of(tier: &Tier) -> u32
+    ensures { result ≡ level_of tier.now }
 {
-    let count = collect_tiers(&entries.tiers, ranked);
-    put_in_rank(&mut ranked[..count]);
-    count
+    let class = u8::from(tier.class);
+    8 * tier.landed.fen() + u32::from(class)
 }
 
-// The level of a tier: tiers of one landed offer and class have one level.
-pub(crate) fn level_of(tier: Tier) -> u32
-    ensures { result ≡ level_of tier }
+// How many tiers, from the first on, have its landed offer and class.
+pub(crate) fn group_end(ranked: &[Tier]) -> usize
+    requires { 0 < length ranked.now }
+    ensures within { (0 < result) × (result ≤ length ranked.now) }
+    ensures same { (k : ℕ) (d : Tier) → k < result → level_of (slice_index_or ranked.now k d) ≡ level_of (slice_index_or ranked.now 0 d) }
+    ensures ends { (result ≡ length ranked.now) ⊎ ((d : Tier) → level_of (slice_index_or ranked.now result d) ≢ level_of (slice_index_or ranked.now 0 d)) }
 {
-    8 * tier.landed.fen() + u32::from(tier.class.number())
-}
-
-// The end of the run of tiers with the landed offer and class of the one at `at`.
-pub(crate) fn group_end(ranked: &[Tier], at: usize) -> usize
-    requires { at < length ranked.now }
-    ensures within { (at < result) × (result ≤ length ranked.now) }
-    ensures same { (k : ℕ) (d : Tier) → at ≤ k → k < result → level_of (slice_index_or ranked.now k d) ≡ level_of (slice_index_or ranked.now at d) }
-    ensures ends { (result ≡ length ranked.now) ⊎ ((d : Tier) → level_of (slice_index_or ranked.now result d) ≢ level_of (slice_index_or ranked.now at d)) }
-{
-    let level = level_of(ranked[at]);
-    for end in at + 1..ranked.len() {
-        if level_of(ranked[end]) != level {
-            return end;
-        }
-    }
-    ranked.len()
+    let level = level_of(&ranked[0]);
+    ranked
+        .iter()
+        .position(|tier| level_of(tier) != level)
+        .unwrap_or(ranked.len())
 }

@@ -1,5 +1,5 @@
-use Rattle.std.proofs.Common.{◌≡◌, ◌<◌, length, Some, None, sym, refl, ◌∙◌, arith}
-use Rattle.std.proofs.lemmas.List.{get_or_read}
+use Rattle.std.proofs.Common.{◌≡◌, ◌<◌, length, Some, None, sym, refl, ◌∙◌, arith, rules}
+use Rattle.std.proofs.lemmas.List.{get_or_read_under}
 use Rattle.clearing.proofs.Collecting.{collected_written, collected_kept}
 use Rattle.clearing.proofs.sequence.collect_tiers.Goals as goal
 use Rattle.clearing.proofs.sequence.collect_tiers.Goals.{in-Some+then-tier-gt0, in-Some+else-tier-gt0, in_default}
@@ -11,9 +11,10 @@ loop-place-preserved c =
     let count = c.loop-place.count in
     let ranked = c.loop-place.ranked in
     let inv = c.loop-place.invariant in
-    let long : length c.match-slot.ranked ≡ 256 = c.match-slot.auto.ranked ∙ inv.1 in
-    let room : count < length ranked = omega (arith, inv.0, inv.1, c.loop-place-test.true, c.requires.0) in
-    let there = get_or_read tiers n c.index-tiers-place.result c.loop-place-test.true c.index-tiers-place.is None in
+    let long : length c.match-slot.ranked ≡ 256 = search rules in
+    let all : length tiers ≡ 256 = search rules in
+    let room : count < length ranked = omega (arith, inv.0, inv.1, c.loop-place-test.true, all) in
+    let there = sym c.index-tiers-place.is ∙ get_or_read_under tiers n 256 c.index-tiers-place.result None c.index-tiers-place.is c.loop-place-test.true (omega (arith, all)) in
     elim c.match-slot.branch [
       | in-Some+then-tier-gt0 w ↦ (
         omega (arith, inv.0, w.count-is),
