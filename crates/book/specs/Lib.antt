@@ -7,3 +7,4 @@ pub mod Reads
 pub mod Posts
 pub mod Bounds
 pub mod Promise
+pub mod Printed

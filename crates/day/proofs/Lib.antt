@@ -1,13 +1,15 @@
 pub mod TableFunctions
-pub mod SeenSoFar
+pub mod Listed
 pub mod EntriesFilled
 pub mod SegmentRows
+pub mod SegmentsFound
 pub mod Declarations
 pub mod ClearedDay
 pub mod AccountTables
 pub mod Charges
 pub mod Raised
 pub mod Receipts
+pub mod Bands
 pub mod Postings
 pub mod PostedDay
 pub mod Following

@@ -1,8 +1,11 @@
 -- What a post can rely on, and what it makes of a day.
+use mathlib.Core.Bool.{Bool-set}
 use mathlib.Core.Logic.{∥∥₁_elim}
-use Rattle.std.proofs.Common.{◌≡◌, ℕ, suc, ◌+◌, ◌<◌, false, None, sym, refl, ap, ◌∙◌, arith, length-take}
+use Rattle.std.proofs.Common.{◌≡◌, ℕ, suc, ◌+◌, ◌<◌, false, is_some, None, sym, refl, ap, ◌∙◌, arith, length-take}
 use native.Mathlib.Bridge.{le_prop}
 use native.Mathlib.Nat.{ℕ_set}
+use Rattle.std.specs.List.{find}
+use Rattle.outcome.specs.Entries.{some_bids}
 use Rattle.outcome.specs.Outcome.{outcome}
 use Rattle.clearing.specs.declared.points.Cleared.{Cleared as Clearing}
 use Rattle.book.specs.Bounds.{Postable}
@@ -22,6 +25,7 @@ use Rattle.market.specs.Rows.{topmost}
 use Rattle.day.specs.declared.state.PointState.{PointState}
 use Rattle.day.specs.declared.state.PointState.TheVariants.{Entering, Cleared}
 use Rattle.day.proofs.Following.{accepted_turn}
+use Rattle.day.proofs.SegmentsFound.{at_bid, bid_found}
 use Rattle.day.proofs.SegmentRows.{Rows, declared_rows, charged_is_charge, price_is_paid}
 
 module _ (posted entered : ℕ) (r : Register) (c : Clearing) (l : Ledger) (followed : ∥ Followed (shown_of posted entered r (Cleared c) l) (Cleared c) ∥₁) where
@@ -36,6 +40,10 @@ module _ (posted entered : ℕ) (r : Register) (c : Clearing) (l : Ledger) (foll
     prices = λ p. ∥∥₁_elim followed (ℕ_set _ _) (λ f. price_is_paid (entries_in (point_of r)) c (rows f) p);
     charges = λ g. ∥∥₁_elim followed (ℕ_set _ _) (λ f. charged_is_charge (entries_in (point_of r)) c (rows f) g);
   }
+
+  -- Some grid bids a price exactly if a row has it.
+  pub bid_is_found : (b : ℕ) → some_bids (entries_in (point_of r)) b ≡ is_some (find (at_bid b) (segments_of c))
+  bid_is_found b = ∥∥₁_elim followed (Bool-set _ _) (λ f. bid_found r c (rows f) b)
 
   -- Its rows rise.
   pub rows_rise : RisingRows (segments_of c)

@@ -1,13 +1,16 @@
 -- What a post pays, unit by unit.
-use Rattle.std.proofs.Common.{◌≡◌, ℕ, ◌+◌, ◌-◌, ◌*◌, ◌/◌, ◌%◌, ◌<◌, ◌≤◌, cond, eqb, List, map, get_or, Some, None, Option, sym, ap, ◌∙◌, inl, inr, zero-mul, arith}
+use Rattle.std.proofs.Common.{◌≡◌, ℕ, ◌+◌, ◌-◌, ◌*◌, ◌/◌, ◌%◌, ◌<◌, ◌≤◌, cond, eqb, List, map, length, get_or, sum, Some, None, Option, sym, ap, ◌∙◌, subst, inl, inr, zero-mul, arith}
 use mathlib.Core.Path.{fun_ext}
+use Rattle.std.specs.List.{zip}
+use Rattle.std.proofs.lemmas.List.{get_or-map}
 use Rattle.std.proofs.lemmas.Bool.{cases_eq, cond-true, cond-false, eq-eqb, ne_eqb}
 use Rattle.lawful.specs.Sums.{sum_to}
-use Rattle.lawful.proofs.Sums.{sum_none, sum_more, sum_same, sum_zeros}
+use Rattle.lawful.proofs.Sums.{sum_none, sum_more, sum_same, sum_zeros, sum_bound}
 use Rattle.market.specs.Landing.{landed_from, deducted, landed}
 use Rattle.market.specs.declared.entries.RawOffer.{RawOffer}
 use Rattle.market.specs.declared.entries.UnitOffer.{UnitOffer}
 use Rattle.market.specs.declared.figures.Charges.{Charges}
+use Rattle.market.specs.declared.figures.Offer.{Offer}
 use Rattle.outcome.specs.Outcome.{at}
 use Rattle.outcome.specs.View.{figure_of}
 use Rattle.outcome.proofs.Segments.{at_same, at_other}
@@ -17,12 +20,14 @@ use Rattle.book.specs.Bounds.{Postable, max_money}
 use Rattle.book.specs.Money.{paid_at, grid_of, charge_of, receipt_at, receipt_of, awarded_to, wires_of, branch_of, posted_money}
 use Rattle.book.specs.Views.{View, Declaration, between_at, entries_in}
 use Rattle.book.proofs.Products.{sum_times, sum_by_fours}
-use Rattle.day.specs.Amounts.{price_over, price_in, awarded_in, receipt_in, received_in, Covered}
+use Rattle.day.specs.Amounts.{price_over, price_of, receipt_in, received_in, Covered}
 use Rattle.day.specs.Posting.{posting, ReadOff}
 use Rattle.day.specs.Shown.{tariff_at, offered, offers_of, segments_of, declaration_of, account_at, money_of, point_of}
+use Rattle.day.specs.declared.ledger.Accounts.{Accounts}
 use Rattle.day.specs.declared.ledger.Ledger.{Ledger}
 use Rattle.day.specs.declared.register.Register.{Register}
 use Rattle.day.proofs.AccountTables.{money_same}
+use Rattle.day.proofs.Bands.{places_of, sum_of_all, places_sum, pairs_long, pair_at}
 use Rattle.day.proofs.Raised.{Raised, raised_none, raised_next, raised_more, raised_nothing, raised_all, sum_part_le}
 
 -- what the wires of a grid receive for a unit
@@ -135,12 +140,21 @@ pub unoffered_none :
     → (band : ℕ) → band < 4 → d.award (4 * u + band) ≡ 0
 unoffered_none r l d postable u within absent band small = postable.unoffered u band within small (ap offered absent)
 
--- A unit of the register that is offered, with the tariffs that lie between.
+-- A unit of the register that is offered, with the tariffs that lie between and its awards by band.
 module _ (r : Register) (l : Ledger) (c : Cleared) (segments : List Segment) (u : ℕ) (o : UnitOffer) (charges : Charges)
     (read : ReadOff r c)
     (same : segments ≡ segments_of c)
     (stands : get_or r.offers u None ≡ Some o)
-    (tariffs : (charges.grid.fen ≡ tariff_at r.tariffs o.grid.number) × (charges.branch.fen ≡ tariff_at r.tariffs 16)) where
+    (tariffs : (charges.grid.fen ≡ tariff_at r.tariffs o.grid.number) × (charges.branch.fen ≡ tariff_at r.tariffs 16))
+    (places : length c.awards ≡ 256)
+    (offers : List Offer)
+    (prices : offers ≡ o.offers)
+    (bands : length offers ≡ 4)
+    (within : u < 64)
+    (postable : Postable (posting r l) (declaration_of c)) where
+  abbrev awards : List ℕ
+  awards = places_of c.awards u
+
   -- Its grid is that of the offer.
   grid_is : grid_of (posting r l) u ≡ o.grid.number
   grid_is = ap (λ x. figure_of (λ y. y.grid) (offered x)) stands
@@ -150,37 +164,63 @@ module _ (r : Register) (l : Ledger) (c : Cleared) (segments : List Segment) (u 
   between_is = ap (between_at (posting r l)) grid_is ∙ omega (arith, tariffs.0, tariffs.1)
 
   -- A band of it lands by its offer and the tariffs.
-  landed_is : (band : ℕ) → band < 4 → (entries_in (point_of r)).landed (4 * u + band) ≡ landed (get_or (map (λ x. x.yuan) o.offers) band 0) charges
-  landed_is band small =
-      let of-band = λ (k : ℕ) (x : Option RawOffer). figure_of (λ y. landed_from (get_or y.offers k 0) (between_at (point_of r) y.grid)) x in
+  landed_is : (band : ℕ) (x : Offer) → band < 4 → (entries_in (point_of r)).landed (4 * u + band) ≡ landed (get_or offers band x).yuan charges
+  landed_is band x small =
+      let of-band = λ (k : ℕ) (y : Option RawOffer). figure_of (λ z. landed_from (get_or z.offers k 0) (between_at (point_of r) z.grid)) y in
       let p = 4 * u + band in
       let the-band : p % 4 ≡ band = omega arith in
       let the-unit : p / 4 ≡ u = omega arith in
       ap (λ k. of-band k (offers_of r (p / 4))) the-band
       ∙ ap (λ k. of-band band (offers_of r k)) the-unit
-      ∙ ap (λ x. of-band band (offered x)) stands
-      ∙ ap (landed_from (get_or (map (λ x. x.yuan) o.offers) band 0)) (omega (arith, tariffs.0, tariffs.1))
+      ∙ ap (λ y. of-band band (offered y)) stands
+      ∙ ap (landed_from (get_or (map (λ y. y.yuan) o.offers) band 0)) (omega (arith, tariffs.0, tariffs.1))
+      ∙ ap (λ os. landed (get_or (map (λ y. y.yuan) os) band 0) charges) (sym prices)
+      ∙ ap (λ n. landed n charges) (get_or-map (λ y. y.yuan) offers band x 0 (omega (arith, bands)))
 
   -- The price of a band is the one at which its place is paid.
-  price_in_is : (band : ℕ) → band < 4 → price_in o charges segments band ≡ paid_at (entries_in (posting r l)) (declaration_of c) (4 * u + band)
-  price_in_is band small =
-      ap (λ ss. price_in o charges ss band) same
-      ∙ ap (price_over (segments_of c)) (sym (landed_is band small))
+  price_is : (band : ℕ) (x : Offer) → band < 4 → price_of charges segments (get_or offers band x) ≡ paid_at (entries_in (posting r l)) (declaration_of c) (4 * u + band)
+  price_is band x small =
+      ap (λ ss. price_of charges ss (get_or offers band x)) same
+      ∙ ap (price_over (segments_of c)) (sym (landed_is band x small))
       ∙ read.prices (4 * u + band)
 
-  -- What it receives is what the declaration says.
-  received_is : received_in o charges segments c.awards u ≡ receipt_of (posting r l) (declaration_of c) u
-  received_is =
-      sum_same 4 (receipt_in o charges segments c.awards u) (receipt_at (posting r l) (declaration_of c) u)
-      (λ band small.
+  -- What a band brings is what the declaration says.
+  receipt_is : (band : ℕ) (d : ℕ × Offer) → band < 4 → receipt_in charges segments (get_or (zip awards offers) band d) ≡ receipt_at (posting r l) (declaration_of c) u band
+  receipt_is band d small =
       let award = get_or c.awards (4 * u + band) 0 in
-      ap (λ n. award * (n - deducted charges)) (price_in_is band small)
-      ∙ ap (λ n. award * (paid_at (entries_in (posting r l)) (declaration_of c) (4 * u + band) - n)) (sym between_is))
+      ap (receipt_in charges segments) (pair_at c.awards u places within offers bands band d small)
+      ∙ ap (λ n. award * (n - deducted charges)) (price_is band d.1 small)
+      ∙ ap (λ n. award * (paid_at (entries_in (posting r l)) (declaration_of c) (4 * u + band) - n)) (sym between_is)
+
+  -- an offer that stands nowhere
+  abbrev free : Offer
+  free = record { yuan = 0; ok = omega arith }
+
+  -- What it receives is what the declaration says.
+  received_is : received_in charges segments awards offers ≡ receipt_of (posting r l) (declaration_of c) u
+  received_is =
+      sum_of_all (receipt_in charges segments) (zip awards offers) (0, free) 4 (pairs_long c.awards u places within offers bands)
+      ∙ sum_same 4 (λ band. receipt_in charges segments (get_or (zip awards offers) band (0, free))) (receipt_at (posting r l) (declaration_of c) u) (λ band small. receipt_is band (0, free) small)
+
+  -- Its awards add up to what the declaration says.
+  awarded_is : sum awards ≡ awarded_to (declaration_of c) u
+  awarded_is = places_sum c.awards u places within
 
   -- The price covers what lies between wherever it has an award.
-  pub offered_covered : u < 64 → Postable (posting r l) (declaration_of c) → Covered o charges segments c.awards u
-  offered_covered within postable band small some =
-      omega (arith, postable.covered u band within small some, between_is, price_in_is band small)
+  pub offered_covered : Covered charges segments awards offers
+  offered_covered band d small =
+      let few : band < 4 = omega (arith, pairs_long c.awards u places within offers bands) in
+      subst (λ (x : ℕ × Offer). 0 < x.0 → deducted charges ≤ price_of charges segments x.1) (sym (pair_at c.awards u places within offers bands band d few))
+      (λ some. omega (arith, postable.covered u band within few some, between_is, price_is band d.1 few))
+
+  -- Its awards are no more than money can be.
+  pub offered_small : sum awards ≤ max_money
+  offered_small =
+      omega (arith, awarded_is, sum_bound 4 20000 (λ band. (declaration_of c).award (4 * u + band)) (λ band small. postable.awards (4 * u + band) (omega arith)))
+
+  -- What it receives is no more than money can be.
+  pub offered_fits_alone : received_in charges segments awards offers ≤ max_money
+  offered_fits_alone = omega (arith, received_is, postable.units u within)
 
   module _ (units wires : ℕ → ℕ) (branch : ℕ) (paid : Paid (posting r l) (declaration_of c) u units wires branch) where
     abbrev at-grid : ℕ → ℕ → ℕ
@@ -188,37 +228,35 @@ module _ (r : Register) (l : Ledger) (c : Cleared) (segments : List Segment) (u 
 
     -- What it, its grid and the branch receive fits.
     pub offered_fits :
-        u < 64 → Postable (posting r l) (declaration_of c)
-        → (units u + received_in o charges segments c.awards u ≤ max_money)
-        × (wires o.grid.number + awarded_in c.awards u * charges.grid.fen ≤ max_money)
-        × (branch + awarded_in c.awards u * charges.branch.fen ≤ max_money)
-    offered_fits within postable =
+        (units u + received_in charges segments awards offers ≤ max_money)
+        × (wires o.grid.number + sum awards * charges.grid.fen ≤ max_money)
+        × (branch + sum awards * charges.branch.fen ≤ max_money)
+    offered_fits =
         let v = posting r l in
         let d = declaration_of c in (
           omega (arith, received_is, unit_fits v d u units wires branch paid postable within),
-          omega (arith, ap (at-grid (awarded_in c.awards u)) tariffs.0, wires_fit v d u units wires branch paid postable within o.grid.number grid_is o.grid.ok),
-          omega (arith, ap (λ t. awarded_in c.awards u * t) tariffs.1, branch_fits v d u units wires branch paid postable within),
+          omega (arith, ap (λ n. at-grid n charges.grid.fen) awarded_is, ap (at-grid (awarded_to d u)) tariffs.0, wires_fit v d u units wires branch paid postable within o.grid.number grid_is o.grid.ok),
+          omega (arith, ap (λ n. n * charges.branch.fen) awarded_is, ap (λ t. awarded_to d u * t) tariffs.1, branch_fits v d u units wires branch paid postable within),
         )
 
     -- Once it, its grid and the branch are raised, one unit more is paid.
     pub offered_paid :
-        (units' wires' : ℕ → ℕ) (branch' : ℕ) → units' ≡ at u (units u + received_in o charges segments c.awards u) units
-        → wires' ≡ at o.grid.number (wires o.grid.number + awarded_in c.awards u * charges.grid.fen) wires
-        → branch' ≡ branch + awarded_in c.awards u * charges.branch.fen → Paid (posting r l) (declaration_of c) (u + 1) units' wires' branch'
+        (units' wires' : ℕ → ℕ) (branch' : ℕ) → units' ≡ at u (units u + received_in charges segments awards offers) units
+        → wires' ≡ at o.grid.number (wires o.grid.number + sum awards * charges.grid.fen) wires
+        → branch' ≡ branch + sum awards * charges.branch.fen → Paid (posting r l) (declaration_of c) (u + 1) units' wires' branch'
     offered_paid units' wires' branch' units-are wires-are branch-is =
-        paid_more (posting r l) (declaration_of c) u units wires branch paid o.grid.number units' wires' branch' grid_is
+        let d = declaration_of c in
+        paid_more (posting r l) d u units wires branch paid o.grid.number units' wires' branch' grid_is
         (units-are ∙ ap (λ n. at u (units u + n) units) received_is)
-        (wires-are ∙ ap (λ t. at o.grid.number (at-grid (awarded_in c.awards u) t) wires) tariffs.0)
-        (branch-is ∙ ap (λ t. branch + awarded_in c.awards u * t) tariffs.1)
+        (wires-are ∙ ap (λ n. at o.grid.number (at-grid n charges.grid.fen) wires) awarded_is ∙ ap (λ t. at o.grid.number (at-grid (awarded_to d u) t) wires) tariffs.0)
+        (branch-is ∙ ap (λ n. branch + n * charges.branch.fen) awarded_is ∙ ap (λ t. branch + awarded_to d u * t) tariffs.1)
 
--- A ledger whose charges are raised, on top of one whose other accounts are, holds the money of the post.
+-- A ledger whose charges are raised, beside its other accounts, holds the money of the post.
 pub posted_money_lem :
-    (v : View) (d : Declaration) (paid after : Ledger) → ((g : ℕ) → account_at after.charges g ≡ v.money.charge g + charge_of d g)
-    → (after.units ≡ paid.units) × (after.wires ≡ paid.wires) × (after.branch ≡ paid.branch)
+    (v : View) (d : Declaration) (paid : Ledger) (charged : Accounts 16) → ((g : ℕ) → account_at charged g ≡ v.money.charge g + charge_of d g)
     → ((u : ℕ) → account_at paid.units u ≡ v.money.unit u + receipt_of v d u) → ((g : ℕ) → account_at paid.wires g ≡ v.money.wires g + wires_of v d g)
-    → paid.branch.fortieths ≡ v.money.branch + branch_of v d → money_of after ≡ posted_money v d
-posted_money_lem v d paid after charges others units wires branch =
-    money_same (money_of after) (posted_money v d) (fun_ext charges)
-    (fun_ext (λ u. ap (λ xs. account_at xs u) others.0 ∙ units u))
-    (fun_ext (λ g. ap (λ xs. account_at xs g) others.1 ∙ wires g))
-    (ap (λ a. a.fortieths) others.2 ∙ branch)
+    → paid.branch.fortieths ≡ v.money.branch + branch_of v d
+    → money_of (record { charges = charged; units = paid.units; wires = paid.wires; branch = paid.branch }) ≡ posted_money v d
+posted_money_lem v d paid charged charges units wires branch =
+    money_same (money_of (record { charges = charged; units = paid.units; wires = paid.wires; branch = paid.branch })) (posted_money v d)
+    (fun_ext charges) (fun_ext units) (fun_ext wires) branch

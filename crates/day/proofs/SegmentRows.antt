@@ -1,6 +1,6 @@
 -- The table of segments: one row for each bid, rising.
-use Rattle.std.proofs.Common.{◌≡◌, ℕ, zero, suc, ◌+◌, ◌-◌, ◌<◌, ◌≤◌, true, cond, eqb, leb, ◌⊎◌, List, [], ◌∷◌, length, get_or, take, drop, replicate, sum_by, sym, refl, ap, ◌∙◌, inl, inr, mul-zero, arith, length-take}
-use Rattle.std.proofs.lemmas.List.{get_or-take, get_or_past, at_drop_more}
+use Rattle.std.proofs.Common.{◌≡◌, ℕ, zero, suc, ◌+◌, ◌<◌, ◌≤◌, true, cond, eqb, leb, ◌⊎◌, List, [], ◌∷◌, length, get_or, replicate, sum_by, sym, refl, ap, ◌∙◌, inl, inr, mul-zero, arith, length-take}
+use Rattle.std.proofs.lemmas.List.{get_or-take, get_or_past}
 use Rattle.std.proofs.lemmas.List.Sums.{sum_by-cons}
 use Rattle.std.proofs.lemmas.Bool.{cases_eq, cases_lt, cond-true, cond-false, eq-eqb, ne_eqb, le-leb, lt-leb}
 use Rattle.lawful.specs.Sums.{sum_to}
@@ -41,20 +41,6 @@ segment_at_row (s ∷ ss) rising (suc k) l =
     let b = (row_at ss k).bid in
     let above = rising 0 (suc k) (omega arith) l in
     cond-false (eqb s.bid b) s (segment_at ss b) (ne_eqb s.bid b (λ same. omega arith)) ∙ segment_at_row ss (rest_rising s ss rising) k (omega arith)
-
--- A row of another bid is passed over.
-pub row_passes : (segments : List Segment) (b i : ℕ) (d : Segment) → i < length segments → ((get_or segments i d).bid ≡ b → ⊥) → segment_at (drop i segments) b ≡ segment_at (drop (i + 1) segments) b
-row_passes segments b i d l other =
-    let row = get_or segments i d in
-    let next : segment_at (drop i segments) b ≡ cond (eqb row.bid b) row (segment_at (drop (i + 1) segments) b) = at_drop_more (λ ss. segment_at ss b) segments i d l in
-    next ∙ cond-false (eqb row.bid b) row (segment_at (drop (i + 1) segments) b) (ne_eqb row.bid b other)
-
--- A row of the bid is the segment at it.
-pub row_stands : (segments : List Segment) (b i : ℕ) (d : Segment) → i < length segments → (get_or segments i d).bid ≡ b → segment_at (drop i segments) b ≡ get_or segments i d
-row_stands segments b i d l same =
-    let row = get_or segments i d in
-    let next : segment_at (drop i segments) b ≡ cond (eqb row.bid b) row (segment_at (drop (i + 1) segments) b) = at_drop_more (λ ss. segment_at ss b) segments i d l in
-    next ∙ cond-true (eqb row.bid b) row (segment_at (drop (i + 1) segments) b) (eq-eqb row.bid b same)
 
 -- A sum over all bids below n is a sum over the rows, where these have bids below n.
 pub sum_over_rows :
@@ -145,10 +131,6 @@ declared_rows e o c d = record {
 
     same : (k : ℕ) → k < c.count → (row_at (segments_of c) k).bid ≡ (row_at c.segments k).bid
     same k l = ap (λ s. s.bid) (row k l)
-
--- The rows cut off at the count are the rows declared.
-pub whole_rows : (c : Cleared) → take (c.count - 0) c.segments ≡ segments_of c
-whole_rows c = ap (λ n. take n c.segments) (omega arith)
 
 -- In a blank row nobody is charged.
 blank_charge : (g : ℕ) → charged_in g blank_segment ≡ 0

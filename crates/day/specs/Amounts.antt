@@ -1,10 +1,9 @@
 -- What a post reads off the segments and the awards.
-use Rattle.std.specs.Prelude.{ℕ, ◌+◌, ◌-◌, ◌*◌, ◌<◌, ◌≤◌, cond, List, [], ◌∷◌, map, sum_by, nat_le, slice_index}
-use Rattle.lawful.specs.Sums.{sum_to}
+use Rattle.std.specs.Prelude.{ℕ, ◌-◌, ◌*◌, ◌<◌, ◌≤◌, cond, List, [], ◌∷◌, sum_by, nat_le, All}
+use Rattle.std.specs.List.{zip}
 use Rattle.market.specs.Landing.{deducted, landed}
-use Rattle.market.specs.Maxima.{bands_of_unit}
-use Rattle.market.specs.declared.entries.UnitOffer.{UnitOffer}
 use Rattle.market.specs.declared.figures.Charges.{Charges}
+use Rattle.market.specs.declared.figures.Offer.{Offer}
 use Rattle.clearing.specs.declared.points.Segment.{Segment}
 use Rattle.day.specs.Shown.{among_grids}
 
@@ -21,27 +20,18 @@ abbrev pub price_over : List Segment → ℕ → ℕ
 price_over [] fen = 0
 price_over (s ∷ ss) fen = cond (nat_le fen s.bid) s.price (price_over ss fen)
 
--- the price at which a band of an offer is paid
-abbrev pub price_in : UnitOffer → Charges → List Segment → ℕ → ℕ
-price_in offer charges segments band = price_over segments (landed (slice_index (map (λ x. x.yuan) offer.offers) band) charges)
+-- the price at which an offer is paid
+abbrev pub price_of : Charges → List Segment → Offer → ℕ
+price_of charges segments offer = price_over segments (landed offer.yuan charges)
 
--- the award of a unit in a band
-abbrev pub award_in : List ℕ → ℕ → ℕ → ℕ
-award_in awards unit band = slice_index awards (bands_of_unit * unit + band)
+-- what an award at an offer brings
+abbrev pub receipt_in : Charges → List Segment → ℕ × Offer → ℕ
+receipt_in charges segments band = band.0 * (price_of charges segments band.1 - deducted charges)
 
--- what a unit is awarded in all
-abbrev pub awarded_in : List ℕ → ℕ → ℕ
-awarded_in awards unit = sum_to bands_of_unit (award_in awards unit)
-
--- what a unit receives in a band
-abbrev pub receipt_in : UnitOffer → Charges → List Segment → List ℕ → ℕ → ℕ → ℕ
-receipt_in offer charges segments awards unit band = award_in awards unit band * (price_in offer charges segments band - deducted charges)
-
--- what a unit receives in all
-abbrev pub received_in : UnitOffer → Charges → List Segment → List ℕ → ℕ → ℕ
-received_in offer charges segments awards unit = sum_to bands_of_unit (receipt_in offer charges segments awards unit)
+-- what a unit receives for its awards at its offers, by band
+abbrev pub received_in : Charges → List Segment → List ℕ → List Offer → ℕ
+received_in charges segments awards offers = sum_by (receipt_in charges segments) (zip awards offers)
 
 -- Where a unit is awarded something, the price covers what lies between.
-abbrev pub Covered : UnitOffer → Charges → List Segment → List ℕ → ℕ → Type 0
-Covered offer charges segments awards unit =
-    (band : ℕ) → band < bands_of_unit → 0 < award_in awards unit band → deducted charges ≤ price_in offer charges segments band
+abbrev pub Covered : Charges → List Segment → List ℕ → List Offer → Type 0
+Covered charges segments awards offers = All (λ band. 0 < band.0 → deducted charges ≤ price_of charges segments band.1) (zip awards offers)

@@ -1,11 +1,9 @@
 -- What a running day shows, and what a closed one answers.
-use Rattle.std.specs.Prelude.{◌≡◌, ℕ, ◌+◌, ◌*◌, ◌<◌, ◌≤◌, cond, List, [], ◌∷◌, length, Some, None, Option, nat_le, slice_index_or}
+use Rattle.std.specs.Prelude.{◌≡◌, ℕ, ◌<◌, ◌≤◌, cond, List, length, Some, None, Option, slice_index_or}
 use Rattle.lawful.specs.Sums.{sum_to}
 use Rattle.lawful.specs.Awards.{Award, AwardSet, zero_award}
 use Rattle.lawful.specs.Lawful.{Lawful}
 use Rattle.market.specs.Maxima.{grid_count, place_count, max_price}
-use Rattle.market.specs.Refusals.{refusal_of}
-use Rattle.market.specs.Rows.{Row, row}
 use Rattle.outcome.specs.Entries.{some_bids}
 use Rattle.market.specs.declared.refusals.Refusal.{Refusal}
 use Rattle.book.specs.Calls.{Call, clear}
@@ -61,14 +59,6 @@ figures_at (cleared d) bid = Some (d.quantity bid, d.price bid)
 -- both are absent unless the point is cleared, and for a price that nobody bids
 abbrev pub segment_read : View → ℕ → Option (ℕ × ℕ)
 segment_read v bid = cond (some_bids (entries_in v) bid) (figures_at v.stage bid) None
-
--- why an account is not answered: there is none of this number
-abbrev pub account_rows : ℕ → ℕ → List Row
-account_rows count number = row (nat_le count number) (refusal_of 4 2 number) ∷ []
-
--- whole fen and the fortieths left over, tied to the exact money
-abbrev pub WholeFen : ℕ → ℕ × ℕ → Type 0
-WholeFen fortieths m = (m.0 * 40 + m.1 ≡ fortieths) × (m.1 < 40)
 
 -- A day that the calls h led to closes well: at every moment of them the promise was kept; its accounts are the sums over the accepted
 -- posts, and the money charged is exactly what units, grids and branch received.

@@ -11,7 +11,7 @@ use Rattle.clearing.specs.declared.points.Segment.{Segment}
 use Rattle.clearing.specs.declared.points.Cleared.{Cleared}
 use Rattle.book.specs.Views.{View, Stage, entering, cleared, Declaration, Asked, Money, no_money}
 use Rattle.outcome.specs.Entries.{Entries, level}
-use Rattle.day.specs.declared.ledger.Account.{Account}
+use Rattle.day.specs.declared.ledger.Accounts.{Accounts}
 use Rattle.day.specs.declared.ledger.Ledger.{Ledger}
 use Rattle.day.specs.declared.register.Register.{Register}
 use Rattle.day.specs.declared.state.CallKind.{CallKind}
@@ -58,9 +58,9 @@ abbrev pub stage_of : PointState → Stage
 stage_of state.Entering = entering
 stage_of (state.Cleared c) = cleared (declaration_of c)
 
--- the money on the account at an index, 0 outside the table
-abbrev pub account_at : List Account → ℕ → ℕ
-account_at xs k = slice_index (map (λ a. a.fortieths) xs) k
+-- the money on the account of a number, 0 outside the table
+abbrev pub account_at : {n : ℕ} → Accounts n → ℕ → ℕ
+account_at table k = slice_index (map (λ a. a.fortieths) table.rows) k
 
 abbrev pub money_of : Ledger → Money
 money_of l = record { charge = account_at l.charges; unit = account_at l.units; wires = account_at l.wires; branch = l.branch.fortieths }

@@ -85,9 +85,7 @@ impl RunningDay {
         ensures day { shown self.new ≡ turn (call.withdraw unit) (shown self.old) }
     {
         self.admit(CallKind::Withdraw, unit)?;
-        let Some(seller) = Unit::from_number(unit) else {
-            return Err(MarketRefusal::OutOfRange { name: unit });
-        };
+        let seller = Unit::try_from(unit)?;
         if !self.register.has_offer(seller) {
             return Err(MarketRefusal::NotOffered { unit });
         }

@@ -1,9 +1,15 @@
 // The accounts of a day, in fortieths of a fen.
-ghost use Rattle.std.specs.Prelude.{◌≡◌, ◌+◌, ◌<◌, ◌≤◌};
+ghost use Rattle.std.specs.Prelude.{◌≡◌, ◌+◌, ◌<◌, ◌≤◌, IfOk};
+ghost use Rattle.market.specs.Entries.{market_answer};
+ghost use Rattle.market.specs.Rows.{topmost};
 ghost use Rattle.outcome.specs.Outcome.{at};
 ghost use Rattle.book.specs.Bounds.{max_money};
 ghost use Rattle.book.specs.Views.{no_money};
 ghost use Rattle.day.specs.Shown.{account_at, money_of};
+ghost use Rattle.day.specs.Accounts.{account_rows, WholeFen};
+
+use book::{Money, whole_fen};
+use market::refusals::MarketRefusal;
 
 // One account.
 #[derive(Clone, Copy)]
@@ -12,8 +18,11 @@ pub struct Account {
 }
 
 impl Account {
+    // No money yet.
+    const NONE: Account = Account { fortieths: 0 };
+
     // Raises the account.
-    fn raise(&mut self, by: u64)
+    pub(crate) fn raise(&mut self, by: u64)
         requires { self.old.fortieths + by ≤ max_money }
         ensures { self.new.fortieths ≡ self.old.fortieths + by }
     {
@@ -21,19 +30,47 @@ impl Account {
     }
 
     // The money on the account.
-    pub(crate) fn fortieths(&self) -> u64
-        ensures { result ≡ self.now.fortieths }
+    pub(crate) fn money(&self) -> Money
+        ensures { WholeFen self.now.fortieths result }
     {
-        self.fortieths
+        whole_fen(self.fortieths)
     }
 }
 
-// What each buyer is charged, and what each unit, each grid's wires and the branch receive. The index is the grid or the unit.
+// The accounts of N parties. The index is the grid or the unit.
+#[derive(Clone, Copy)]
+pub struct Accounts<const N: usize> {
+    rows: [Account; N],
+}
+
+impl<const N: usize> Accounts<N> {
+    // Raises one account.
+    pub(crate) fn raise(&mut self, number: usize, by: u64)
+        requires known { number < N }
+        requires fits { account_at self.old number + by ≤ max_money }
+        ensures { account_at self.new ≡ at number (account_at self.old number + by) (account_at self.old) }
+    {
+        self.rows[number].raise(by);
+    }
+
+    // The money on one account. Declined with 4 where there is none of this number.
+    pub(crate) fn money(&self, number: u32) -> Result<Money, MarketRefusal>
+        ensures answer { market_answer result ≡ topmost (account_rows N number) }
+        ensures money { IfOk result (λ m. WholeFen (account_at self.now number) m) }
+    {
+        match self.rows.get(number as usize) {
+            Some(account) => Ok(account.money()),
+            None => Err(MarketRefusal::OutOfRange { name: number }),
+        }
+    }
+}
+
+// What each buyer is charged, and what each unit, each grid's wires and the branch receive.
 #[derive(Clone, Copy)]
 pub struct Ledger {
-    pub charges: [Account; 16],
-    pub units: [Account; 64],
-    pub wires: [Account; 16],
+    pub charges: Accounts<16>,
+    pub units: Accounts<64>,
+    pub wires: Accounts<16>,
     pub branch: Account,
 }
 
@@ -42,51 +79,17 @@ impl Ledger {
     pub(crate) fn empty() -> Ledger
         ensures { money_of result ≡ no_money }
     {
-        let none = Account { fortieths: 0 };
         Ledger {
-            charges: [none; 16],
-            units: [none; 64],
-            wires: [none; 16],
-            branch: none,
+            charges: Accounts {
+                rows: [Account::NONE; 16],
+            },
+            units: Accounts {
+                rows: [Account::NONE; 64],
+            },
+            wires: Accounts {
+                rows: [Account::NONE; 16],
+            },
+            branch: Account::NONE,
         }
-    }
-
-    // Charges a buyer.
-    pub(crate) fn charge(&mut self, grid: usize, by: u64)
-        requires known { grid < 16 }
-        requires fits { account_at self.old.charges grid + by ≤ max_money }
-        ensures charges { account_at self.new.charges ≡ at grid (account_at self.old.charges grid + by) (account_at self.old.charges) }
-        ensures others { (self.new.units ≡ self.old.units) × (self.new.wires ≡ self.old.wires) × (self.new.branch ≡ self.old.branch) }
-    {
-        self.charges[grid].raise(by);
-    }
-
-    // Pays a unit.
-    pub(crate) fn pay_unit(&mut self, unit: usize, by: u64)
-        requires known { unit < 64 }
-        requires fits { account_at self.old.units unit + by ≤ max_money }
-        ensures units { account_at self.new.units ≡ at unit (account_at self.old.units unit + by) (account_at self.old.units) }
-        ensures others { (self.new.charges ≡ self.old.charges) × (self.new.wires ≡ self.old.wires) × (self.new.branch ≡ self.old.branch) }
-    {
-        self.units[unit].raise(by);
-    }
-
-    // Pays a grid for its wires.
-    pub(crate) fn pay_wires(&mut self, grid: usize, by: u64)
-        requires known { grid < 16 }
-        requires fits { account_at self.old.wires grid + by ≤ max_money }
-        ensures wires { account_at self.new.wires ≡ at grid (account_at self.old.wires grid + by) (account_at self.old.wires) }
-        ensures others { (self.new.charges ≡ self.old.charges) × (self.new.units ≡ self.old.units) × (self.new.branch ≡ self.old.branch) }
-    {
-        self.wires[grid].raise(by);
-    }
-
-    // Pays the branch.
-    pub(crate) fn pay_branch(&mut self, by: u64)
-        requires { self.old.branch.fortieths + by ≤ max_money }
-        ensures branch { self.new.branch.fortieths ≡ self.old.branch.fortieths + by }
-        ensures others { (self.new.charges ≡ self.old.charges) × (self.new.units ≡ self.old.units) × (self.new.wires ≡ self.old.wires) }
-    {
-        self.branch.raise(by);
     }
 }

@@ -1,24 +1,18 @@
 // What a running day can be asked.
-ghost use Rattle.std.specs.Prelude.{◌≡◌};
+ghost use Rattle.std.specs.Prelude.{◌≡◌, ◌==◌, option_copied, option_map};
+ghost use Rattle.std.specs.List.{find};
 ghost use Rattle.book.specs.Reads.{award_read, share_read, quantity_read, price_read};
-ghost use Rattle.day.specs.Shown.{segment_at};
 ghost use Rattle.day.specs.Day.{shown, stage_read, segment_read, RisingRead, LedTo};
 
 use super::RunningDay;
 use super::state::PointState;
 use clearing::points::{Cleared, Segment};
-use market::maxima::{GRIDS, PLACES};
 
-// The quantity and the price of the segment at this bid, 0 where there is none.
-fn figures_at(segments: &[Segment], bid: u32) -> (u32, u32)
-    ensures { (result.0 ≡ (segment_at segments.now bid).quantity) × (result.1 ≡ (segment_at segments.now bid).price) }
+// The segment at this bid, if there is one.
+fn segment_at(segments: &[Segment], bid: u32) -> Option<&Segment>
+    ensures { option_copied result ≡ find (λ s. s.bid == bid) segments.now }
 {
-    for segment in segments {
-        if segment.bid == bid {
-            return (segment.quantity, segment.price);
-        }
-    }
-    (0, 0)
+    segments.iter().find(|segment| segment.bid == bid)
 }
 
 impl RunningDay {
@@ -53,8 +47,8 @@ impl RunningDay {
         ensures { result ≡ award_read (shown self.now) place }
     {
         match &self.state {
-            PointState::Cleared(cleared) if place < PLACES => Some(cleared.awards[place as usize]),
-            _ => None,
+            PointState::Entering => None,
+            PointState::Cleared(cleared) => cleared.awards.get(place as usize).copied(),
         }
     }
 
@@ -63,21 +57,18 @@ impl RunningDay {
         ensures { result ≡ share_read (shown self.now) grid }
     {
         match &self.state {
-            PointState::Cleared(cleared) if grid < GRIDS => Some(cleared.got[grid as usize]),
-            _ => None,
+            PointState::Entering => None,
+            PointState::Cleared(cleared) => cleared.got.get(grid as usize).copied(),
         }
     }
 
-    // The quantity and the price of the segment at a bid: absent unless the point is cleared, and for a price that nobody bids.
-    fn segment(&self, bid: u32) -> Option<(u32, u32)>
-        ensures { result ≡ segment_read (shown self.now) bid }
+    // The segment at a bid: absent unless the point is cleared, and for a price that nobody bids.
+    fn segment(&self, bid: u32) -> Option<&Segment>
+        ensures { option_map (λ s. (s.quantity, s.price)) (option_copied result) ≡ segment_read (shown self.now) bid }
     {
         match &self.state {
-            PointState::Cleared(cleared) if self.register.any_bids(bid) => {
-                let count = cleared.count;
-                Some(figures_at(&cleared.segments[..count], bid))
-            }
-            _ => None,
+            PointState::Entering => None,
+            PointState::Cleared(cleared) => segment_at(cleared.segments(), bid),
         }
     }
 
@@ -85,15 +76,13 @@ impl RunningDay {
     pub fn segment_quantity(&self, bid: u32) -> Option<u32>
         ensures { result ≡ quantity_read (shown self.now) bid }
     {
-        let (quantity, _) = self.segment(bid)?;
-        Some(quantity)
+        self.segment(bid).map(|segment| segment.quantity)
     }
 
     // The price of the segment at a bid: absent unless the point is cleared, and for a price that nobody bids.
     pub fn segment_price(&self, bid: u32) -> Option<u32>
         ensures { result ≡ price_read (shown self.now) bid }
     {
-        let (_, price) = self.segment(bid)?;
-        Some(price)
+        self.segment(bid).map(|segment| segment.price)
     }
 }

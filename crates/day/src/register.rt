@@ -2,13 +2,13 @@
 ghost use Rattle.std.specs.Prelude.{◌≡◌, ◌<◌, length, is_some, Some, None, slice_index_or};
 ghost use Rattle.market.specs.Entries.{handed_over};
 ghost use Rattle.market.specs.Maxima.{unit_count, grid_count};
-ghost use Rattle.outcome.specs.Entries.{any_below, some_bids};
+ghost use Rattle.outcome.specs.Entries.{any_below};
 ghost use Rattle.outcome.specs.Outcome.{at};
 ghost use Rattle.outcome.specs.View.{entries_of};
 ghost use Rattle.book.specs.Histories.{asked};
 ghost use Rattle.book.specs.Tables.{offered_on};
 ghost use Rattle.book.specs.Views.{entries_in};
-ghost use Rattle.day.specs.Shown.{tariff_at, offers_of, bids_of, point_of, SameEntries};
+ghost use Rattle.day.specs.Shown.{tariff_at, offered, offers_of, bids_of, point_of, SameEntries};
 ghost use Rattle.day.specs.Tiers.{TierAt};
 
 use market::entries::UnitOffer;
@@ -16,12 +16,23 @@ use market::figures::{Charges, Grid, Tariff, Unit};
 use market::tiers::{Bid, Tier};
 use outcome::PointEntries;
 
-// Tariffs by grid, with the branch's at 16; offers by unit; bids by grid.
+// Tariffs by grid, with the branch's at 16; offers by unit; bids by grid. Tables of fixed length, since no call of a day may need memory.
+// The tariffs are one table, since one call sets any of them by its number, 16 for the branch.
 #[derive(Clone, Copy)]
 pub struct Register {
     tariffs: [Tariff; 17],
     offers: [Option<UnitOffer>; 64],
     bids: [Option<Bid>; 16],
+}
+
+// Whether what stands in a unit's slot is an offer on this grid.
+fn is_on(slot: &Option<UnitOffer>, grid: Grid) -> bool
+    ensures { result ≡ offered_on (offered slot.now) grid.number }
+{
+    match slot {
+        Some(offer) => offer.grid == grid,
+        None => false,
+    }
 }
 
 impl Register {
@@ -100,40 +111,16 @@ impl Register {
     pub(crate) fn any_offered(&self) -> bool
         ensures { result ≡ any_below unit_count (λ u. is_some (offers_of self.now u)) }
     {
-        for offer in &self.offers {
-            if offer.is_some() {
-                return true;
-            }
-        }
-        false
+        self.offers.iter().any(|slot| slot.is_some())
     }
 
     // Whether a unit of the grid is offered.
     pub(crate) fn offered_on(&self, grid: Grid) -> bool
         ensures { result ≡ any_below unit_count (λ u. offered_on (offers_of self.now u) grid.number) }
     {
-        for slot in &self.offers {
-            if let Some(offer) = slot {
-                if offer.grid.number == grid.number {
-                    return true;
-                }
-            }
-        }
-        false
-    }
-
-    // Whether some grid bids this price.
-    pub(crate) fn any_bids(&self, price: u32) -> bool
-        ensures { result ≡ some_bids (entries_in (point_of self.now)) price }
-    {
-        for slot in &self.bids {
-            if let Some(bid) = slot {
-                if bid.need > 0 && bid.price.fen == price {
-                    return true;
-                }
-            }
-        }
-        false
+        self.offers
+            .iter()
+            .any(|slot| slot.is_some_and(|offer| offer.grid == grid))
     }
 
     // What a unit's grid and the branch take on each tenth.
@@ -151,11 +138,8 @@ impl Register {
         ensures tier { TierAt (entries_in (point_of self.now)) place result }
         ensures slots { length self.now.offers ≡ unit_count }
     {
-        let unit = usize::from(place / 4);
-        match &self.offers[unit] {
-            Some(offer) => offer.tier(usize::from(place % 4), self.charges(offer.grid)),
-            None => None,
-        }
+        let offer = self.offers[usize::from(place / 4)]?;
+        offer.tier(usize::from(place % 4), self.charges(offer.grid))
     }
 
     // The tiers and bids of the point.
@@ -172,11 +156,10 @@ impl Register {
         }
     }
 
-    // The offer of a unit, if it is offered.
-    pub(crate) fn offer(&self, unit: usize) -> Option<UnitOffer>
-        requires { unit < unit_count }
-        ensures { result ≡ slice_index_or self.now.offers unit None }
+    // The offers by unit.
+    pub(crate) fn offers(&self) -> &[Option<UnitOffer>]
+        ensures { result.now ≡ self.now.offers }
     {
-        self.offers[unit]
+        &self.offers
     }
 }

@@ -65,12 +65,10 @@ pub fn run<S: Screen>(heap: Global, calls: &mut [DayCall<S>]) -> Result<Ran, All
     ensures screens { IfOk result (λ ran. LeavesEach S.Screen calls.old ran.steps.items calls.new) }
     ensures unmade { is_ok result ≡ false → calls.new ≡ calls.old }
 {
-    let count = calls.len();
-    let mut steps = Vec::with_capacity(heap, count)?;
+    let mut steps = Vec::with_capacity(heap, calls.len())?;
     let mut day = RunningDay::start();
-    for k in 0..count {
-        let step = make(&mut day, &mut calls[k]);
-        steps.push_reserved(step);
+    for call in calls.iter_mut() {
+        steps.push_reserved(make(&mut day, call));
     }
     Ok(Ran {
         steps,

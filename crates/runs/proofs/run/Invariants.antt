@@ -4,7 +4,7 @@ use Rattle.runs.proofs.Running.{Running}
 use Rattle.runs.proofs.run.Given as goal
 
 -- The calls so far are made, and there is room for a step of each.
-abbrev pub invariant-loop-k : goal.invariant-loop-k
-invariant-loop-k g l =
-    Running g.S.Screen (λ s. g.met.S.Screen.fresh_lawful s) l.initial.calls l.k (vec_items l.steps) l.calls (shown l.day)
+abbrev pub invariant-loop-call : goal.invariant-loop-call
+invariant-loop-call g l =
+    Running g.S.Screen (λ s. g.met.S.Screen.fresh_lawful s) l.initial.calls l.call-index (vec_items l.steps) l.calls (shown l.day)
     × (length l.initial.calls ≤ vec_capacity l.steps)
