@@ -1,17 +1,14 @@
 -- The tariffs of a strip, set one after the other.
-use Rattle.std.proofs.Common.{◌≡◌, ℕ, zero, suc, ◌+◌, ◌-◌, ◌<◌, ◌≤◌, List, [], ◌∷◌, Some, None, Ok, Err, Option, Result, sym, refl, ap, ◌∙◌, arith}
-use Rattle.market.specs.Entries.{market_answer}
-use Rattle.market.specs.Refusals.{market_refusal}
+use Rattle.std.proofs.Common.{◌≡◌, ℕ, zero, suc, ◌+◌, ◌-◌, ◌<◌, ◌≤◌, List, [], ◌∷◌, false, is_ok, Some, None, Ok, Err, Option, Result, sym, refl, ap, ◌∙◌, arith}
 use Rattle.market.specs.Rows.{topmost}
 use Rattle.market.specs.declared.refusals.Refusal.{Refusal}
-use Rattle.market.specs.declared.refusals.MarketRefusal.{MarketRefusal}
 use Rattle.book.specs.Calls as call
 use Rattle.book.specs.Views.{View}
 use Rattle.book.specs.Tables.{refusal}
 use Rattle.book.specs.Histories.{turn}
 use Rattle.sheet.specs.Layout.{tariff_of, strip_rows}
-use Rattle.loads.specs.declared.faults.MarketAt.{MarketAt}
-use Rattle.loads.specs.Faults.{market_at}
+use Rattle.loads.specs.declared.faults.LoadFault.{LoadFault}
+use Rattle.loads.specs.Faults.{fault_of}
 use Rattle.loads.specs.Loads.{at_position, tariff_on, tariffs_from, strip_begun, stripped, Led}
 use Rattle.loads.proofs.Whole.{joined}
 
@@ -33,22 +30,16 @@ next_tells g fen s v x whole o l read is answer day =
     ∙ ap (λ (n : ℕ). tariff_on o g x (tariffs_from (17 - (g + 1)) n s)) next
 
 -- A refusal ends it, and else it goes on.
-pub tariff_ends : (o : Option Refusal) (g : ℕ) (x : View) (next : View → Came) (q : Refusal × ℕ) → Some q ≡ at_position g o → tariff_on o g x next ≡ (x, Some q)
-tariff_ends None g x next q is = absurd (let no : ⊥ = grind (arith, is) in no)
-tariff_ends (Some e) g x next q is = ap (λ (z : Option (Refusal × ℕ)). (x, z)) (sym is)
+pub tariff_ends :
+    {X : Type 0} (o : Option Refusal) (g : ℕ) (x : View) (next : View → Came) (r : Result X LoadFault) → is_ok r ≡ false → fault_of r ≡ at_position g o
+    → tariff_on o g x next ≡ (x, fault_of r)
+tariff_ends None g x next (Err e) err same = absurd (let no : ⊥ = grind (arith, same) in no)
+tariff_ends (Some q) g x next r err same = ap (λ (z : Option (Refusal × ℕ)). (x, z)) (sym same)
+tariff_ends o g x next (Ok y) err same = absurd (let no : ⊥ = grind (arith, err) in no)
 
--- The refusal and the position that an answer has.
-abbrev pub fault_at : {X : Type 0} → Result X MarketAt → Option (Refusal × ℕ)
-fault_at (Ok x) = None
-fault_at (Err e) = Some (market_refusal e.fault, e.position)
-
-pub fault_at_lem : {X : Type 0} (r : Result X MarketRefusal) (g : ℕ) → fault_at (market_at r g) ≡ at_position g (market_answer r)
-fault_at_lem (Ok x) g = refl
-fault_at_lem (Err e) g = refl
-
-pub accepted : {X : Type 0} (r : Result X MarketRefusal) (g : ℕ) → None ≡ at_position g (market_answer r) → market_answer r ≡ None
-accepted (Ok x) g is = refl
-accepted (Err e) g is = absurd (let no : ⊥ = grind (arith, is) in no)
+pub tariff_goes : (o : Option Refusal) (g : ℕ) (x : View) (next : View → Came) → at_position g o ≡ None → tariff_on o g x next ≡ next x
+tariff_goes None g x next same = refl
+tariff_goes (Some q) g x next same = absurd (let no : ⊥ = grind (arith, same) in no)
 
 -- Tariffs lead from what the day showed by calls.
 led_tariff : (v x : View) (o : Option Refusal) (g : ℕ) (f : View → Came) → Led v x → ((y : View) → Led y (f y).0) → Led v (tariff_on o g x f).0
@@ -65,9 +56,13 @@ led_tariffs (suc n) g s v =
 pub strip_begins : (s : List ℕ) (v : View) (came : Came) → None ≡ topmost (strip_rows s) → tariffs_from 17 0 s v ≡ came → stripped s v ≡ came
 strip_begins s v came none is = ap (λ (o : Option Refusal). strip_begun o v (tariffs_from 17 0 s v)) (sym none) ∙ is
 
-pub led_strip : (s : List ℕ) (v x : View) (o : Option (Refusal × ℕ)) → tariffs_from 17 0 s v ≡ (x, o) → Led v x
+led_begun : (o : Option Refusal) (v : View) (rest : Came) → Led v rest.0 → Led v (strip_begun o v rest).0
+led_begun None v rest led = led
+led_begun (Some e) v rest led = ([], refl)
+
+pub led_strip : (s : List ℕ) (v x : View) (o : Option (Refusal × ℕ)) → stripped s v ≡ (x, o) → Led v x
 led_strip s v x o is =
-    let led = led_tariffs 17 0 s v in
+    let led = led_begun (topmost (strip_rows s)) v (tariffs_from 17 0 s v) (led_tariffs 17 0 s v) in
     (led.0, sym (ap (λ (y : Came). y.0) is) ∙ led.1)
 
 -- No tariff is left.

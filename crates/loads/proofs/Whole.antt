@@ -1,46 +1,70 @@
 -- The records of a whole sheet, loaded part by part.
-use Rattle.std.proofs.Common.{◌≡◌, ℕ, zero, suc, ◌+◌, ◌-◌, ◌*◌, ◌≤◌, min, List, [], ◌∷◌, ◌++◌, length, take, drop, Some, None, Option, sym, refl, ap, ◌∙◌, arith}
+use Rattle.std.proofs.Common.{◌≡◌, ℕ, zero, suc, ◌+◌, ◌-◌, ◌*◌, ◌<◌, ◌≤◌, min, List, [], ◌∷◌, ◌++◌, length, take, drop, Some, None, Option, sym, refl, ap, ◌∙◌, arith}
 use Rattle.std.proofs.lemmas.List.{drop-drop, length-take}
 use Rattle.market.specs.Maxima.{grid_count}
 use Rattle.market.specs.Rows.{topmost}
-use Rattle.market.specs.declared.entries.RawOffer.{RawOffer}
 use Rattle.market.specs.declared.refusals.Refusal.{Refusal}
-use Rattle.screen.specs.Meaning.{Settings}
 use Rattle.book.specs.Calls as call
 use Rattle.book.specs.Calls.{Call}
 use Rattle.book.specs.Views.{View}
 use Rattle.book.specs.Histories.{turn}
-use Rattle.sheet.specs.Layout.{header_of, header_bytes, unit_of, bid_of, limit_of, sheet_rows}
-use Rattle.sheet.specs.declared.records.BidRecord.{BidRecord}
-use Rattle.sheet.specs.declared.records.LimitRecord.{LimitRecord}
+use Rattle.sheet.specs.Layout.{header_of, header_bytes, unit_at, bid_at, limit_at, unit_of, bid_of, limit_of, sheet_rows}
+use Rattle.sheet.specs.declared.header.Header.{Header}
 use Rattle.sheet.proofs.Within.{kth_unit, kth_bid, kth_limit}
-use Rattle.loads.specs.Loads.{Record, unit, bid, limit, units_in, bids_in, limits_in, units_on, bids_on, limits_on, records_of, Desk, Outcome, recorded, onward, load_from, opened_to, day_after, day_rows, first_refusal, either, begun, loaded, turns, Led}
+use Rattle.loads.specs.Loads.{Record, unit, bid, limit, records_in, records_on, body_records, units_in, bids_in, limits_in, units_on, bids_on, limits_on, records_of, Desk, Outcome, recorded, onward, load_from, opened_to, day_after, day_rows, first_refusal, either, begun, loaded, turns, Led}
 
 -- The bytes of the records of a sheet.
 abbrev pub body : ℕ → List ℕ → List ℕ
 body m s = take m (drop header_bytes s)
 
--- The records one behind the other are those of the sheet.
+-- How many bytes the records have is within the length of the sheet.
+pub within_body : (m n : ℕ) (s records : List ℕ) → records ≡ body m s → length records ≡ n → n ≤ m
+within_body m n s records is long =
+    let short : length records ≡ min m (length (drop header_bytes s)) = ap length is ∙ length-take m (drop header_bytes s) in
+    omega (arith, short, long)
+
+-- Records one behind the other, each of which is the one of its number.
+records_whole :
+    (size : ℕ) (first : List ℕ → Record) (nth : ℕ → Record) (s : List ℕ) (n k a : ℕ) → ((j : ℕ) → j < n → first (drop (a + size * j) s) ≡ nth (k + j))
+    → records_in size first n (drop a s) ≡ records_on nth n k
+records_whole size first nth s zero k a each = refl
+records_whole size first nth s (suc n) k a each =
+    let here : a + size * 0 ≡ a = omega arith in
+    let one : k + 0 ≡ k = omega arith in
+    let head : first (drop a s) ≡ nth k = ap (λ (b : ℕ). first (drop b s)) (sym here) ∙ each 0 (omega arith) ∙ ap nth one in
+    ap (λ (x : Record). x ∷ records_in size first n (drop size (drop a s))) head
+    ∙ ap (λ (xs : List ℕ). nth k ∷ records_in size first n xs) (drop-drop size a s)
+    ∙ ap (λ (rs : List Record). nth k ∷ rs) (records_whole size first nth s n (suc k) (a + size) (λ j l.
+    let further : a + size + size * j ≡ a + size * suc j = omega arith in
+    let number : k + suc j ≡ suc k + j = omega arith in
+    ap (λ (b : ℕ). first (drop b s)) further ∙ each (suc j) (omega (arith, l)) ∙ ap nth number))
+
+-- The records behind the header are those of the sheet.
 pub units_whole : (s : List ℕ) (m n k : ℕ) → 19 * k + 19 * n ≤ m → units_in n (drop (19 * k) (body m s)) ≡ units_on n k s
-units_whole s m zero k l = refl
-units_whole s m (suc n) k l =
-    ap (λ (x : RawOffer). unit x ∷ units_in n (drop 19 (drop (19 * k) (body m s)))) (kth_unit s m k (omega (arith, l)))
-    ∙ ap (λ (xs : List ℕ). unit (unit_of s k) ∷ units_in n xs) (drop-drop 19 (19 * k) (body m s) ∙ ap (λ (j : ℕ). drop j (body m s)) (omega arith))
-    ∙ ap (λ (rs : List Record). unit (unit_of s k) ∷ rs) (units_whole s m n (suc k) (omega (arith, l)))
+units_whole s m n k l =
+    records_whole 19 (λ x. unit (unit_at x)) (λ j. unit (unit_of s j)) (body m s) n k (19 * k) (λ j under.
+    ap (λ (b : ℕ). unit (unit_at (drop b (body m s)))) {x = 19 * k + 19 * j} {y = 19 * (k + j)} (omega arith) ∙ ap unit (kth_unit s m (k + j) (omega (arith, l, under))))
 
 pub bids_whole : (s : List ℕ) (m n k a : ℕ) → a ≡ 19 * (header_of s).units + 9 * k → a + 9 * n ≤ m → bids_in n (drop a (body m s)) ≡ bids_on n k s
-bids_whole s m zero k a is l = refl
-bids_whole s m (suc n) k a is l =
-    ap (λ (x : BidRecord). bid x ∷ bids_in n (drop 9 (drop a (body m s)))) (kth_bid s m k a (omega (arith, is)) (omega (arith, l)))
-    ∙ ap (λ (xs : List ℕ). bid (bid_of s k) ∷ bids_in n xs) (drop-drop 9 a (body m s))
-    ∙ ap (λ (rs : List Record). bid (bid_of s k) ∷ rs) (bids_whole s m n (suc k) (a + 9) (omega (arith, is)) (omega (arith, l)))
+bids_whole s m n k a is l =
+    records_whole 9 (λ x. bid (bid_at x)) (λ j. bid (bid_of s j)) (body m s) n k a (λ j under. ap bid (kth_bid s m (k + j) (a + 9 * j) (omega (arith, is)) (omega (arith, l, under))))
 
 pub limits_whole : (s : List ℕ) (m n k a : ℕ) → a ≡ 19 * (header_of s).units + 9 * (header_of s).bids + 5 * k → a + 5 * n ≤ m → limits_in n (drop a (body m s)) ≡ limits_on n k s
-limits_whole s m zero k a is l = refl
-limits_whole s m (suc n) k a is l =
-    ap (λ (x : LimitRecord). limit x ∷ limits_in n (drop 5 (drop a (body m s)))) (kth_limit s m k a (omega (arith, is)) (omega (arith, l)))
-    ∙ ap (λ (xs : List ℕ). limit (limit_of s k) ∷ limits_in n xs) (drop-drop 5 a (body m s))
-    ∙ ap (λ (rs : List Record). limit (limit_of s k) ∷ rs) (limits_whole s m n (suc k) (a + 5) (omega (arith, is)) (omega (arith, l)))
+limits_whole s m n k a is l =
+    records_whole 5 (λ x. limit (limit_at x)) (λ j. limit (limit_of s j)) (body m s) n k a (λ j under. ap limit (kth_limit s m (k + j) (a + 5 * j) (omega (arith, is)) (omega (arith, l, under))))
+
+pub body_whole :
+    (s records : List ℕ) (h : Header) → h ≡ header_of s → records ≡ body (h.length - 10) s → length records ≡ 19 * h.units + 9 * h.bids + 5 * h.limits → body_records h records ≡ records_of s
+body_whole s records h is at long =
+    let m = (header_of s).length - 10 in
+    let same : records ≡ body m s = at ∙ ap (λ (x : Header). body (x.length - 10) s) is in
+    let counts : length records ≡ 19 * (header_of s).units + 9 * (header_of s).bids + 5 * (header_of s).limits = long ∙ ap (λ (x : Header). 19 * x.units + 9 * x.bids + 5 * x.limits) is in
+    let enough = within_body m _ s records same counts in
+    let behind = drop-drop (9 * (header_of s).bids) (19 * (header_of s).units) (body m s) in
+    (λ i. body_records (is i) (same i))
+    ∙ (λ i. units_whole s m (header_of s).units 0 (omega (arith, enough)) i
+    ++ (bids_whole s m (header_of s).bids 0 (19 * (header_of s).units) (omega arith) (omega (arith, enough)) i
+    ++ (ap (limits_in (header_of s).limits) behind ∙ limits_whole s m (header_of s).limits 0 (19 * (header_of s).units + 9 * (header_of s).bids) (omega arith) (omega (arith, enough))) i))
 
 -- Going on twice is going on with both.
 onward_twice : (d : Desk) (o : Option (Refusal × ℕ)) (f g : Desk → Outcome) → (h : Desk → Outcome) → ((x : Desk) → f x ≡ onward (g x).0 (g x).1 h) → onward d o f ≡ onward (onward d o g).0 (onward d o g).1 h
@@ -57,13 +81,9 @@ in_parts L N p q (x ∷ xs) ys d at =
     (λ (e : Desk). in_parts L N (suc p) q xs ys e (omega (arith, at)))
 
 -- There are as many as are counted.
-pub many_units : (n k : ℕ) (s : List ℕ) → length (units_on n k s) ≡ n
-many_units zero k s = refl
-many_units (suc n) k s = ap suc (many_units n (suc k) s)
-
-pub many_bids : (n k : ℕ) (s : List ℕ) → length (bids_on n k s) ≡ n
-many_bids zero k s = refl
-many_bids (suc n) k s = ap suc (many_bids n (suc k) s)
+many_in : (size : ℕ) (first : List ℕ → Record) (n : ℕ) (s : List ℕ) → length (records_in size first n s) ≡ n
+many_in size first zero s = refl
+many_in size first (suc n) s = ap suc (many_in size first n (drop size s))
 
 -- A load leads from what the day showed by calls.
 turns_both : (cs ds : List Call) (v : View) → turns (cs ++ ds) v ≡ turns ds (turns cs v)
@@ -107,79 +127,54 @@ led_begun L N s d x o none is =
     let led = led_load L N 0 (records_of s) (d.0, opened_to L N grid_count d.1) in
     (led.0, sym (ap (λ (y : Outcome). y.0.0) (sym (begins L N s d none) ∙ is)) ∙ led.1)
 
--- How many bytes the records have is within the length of the sheet.
-pub within_body : (m n : ℕ) (s records : List ℕ) → records ≡ body m s → length records ≡ n → n ≤ m
-within_body m n s records is long =
-    let short : length records ≡ min m (length (drop header_bytes s)) = ap length is ∙ length-take m (drop header_bytes s) in
-    omega (arith, short, long)
-
 -- The same records from another place.
-pub carried : (L N M K p : ℕ) (rs : List Record) (v : View) (t x : Settings) (o : Outcome) → M ≡ L → K ≡ N → t ≡ x → load_from M K p rs (v, t) ≡ o → load_from L N p rs (v, x) ≡ o
-carried L N M K p rs v t x o layers nodes same is =
-    ap (λ (n : ℕ). load_from n N p rs (v, x)) (sym layers) ∙ ap (λ (n : ℕ). load_from M n p rs (v, x)) (sym nodes) ∙ ap (λ (y : Settings). load_from M K p rs (v, y)) (sym same) ∙ is
+pub carried : (L N M K p : ℕ) (rs : List Record) (d : Desk) (o : Outcome) → M ≡ L → K ≡ N → load_from M K p rs d ≡ o → load_from L N p rs d ≡ o
+carried L N M K p rs d o layers nodes is = (λ i. load_from (sym layers i) (sym nodes i) p rs d) ∙ is
 
+-- The records behind a header, counted by u, b and t.
 module _
-    (L N m u b t : ℕ) (s records bids limits : List ℕ) (d : Desk)
-    (units-are : u ≡ (header_of s).units) (bids-are : b ≡ (header_of s).bids) (limits-are : t ≡ (header_of s).limits)
-    (records-at : records ≡ body m s) (bids-at : bids ≡ drop (19 * u) records) (limits-at : limits ≡ drop (9 * (u + b - u)) bids)
-    (enough : 19 * u + 9 * b + 5 * t ≤ m) (none : first_refusal d.0 s ≡ None) where
-  read_units : units_in u records ≡ units_on (header_of s).units 0 s
-  read_units = ap (λ (n : ℕ). units_in n records) units-are ∙ ap (units_in (header_of s).units) records-at ∙ units_whole s m (header_of s).units 0 (omega (arith, enough, units-are))
+    (L N u b t : ℕ) (h : Header) (s behind-units behind-bids : List ℕ) (units-are : u ≡ h.units) (bids-are : b ≡ h.bids) (limits-are : t ≡ h.limits)
+    (bids-from : behind-units ≡ drop (19 * u) s) (limits-from : behind-bids ≡ drop (9 * b) behind-units) where
+  abbrev units : List Record
+  units = units_in u s
 
-  bids_body : bids ≡ drop (19 * u) (body m s)
-  bids_body = bids-at ∙ ap (drop (19 * u)) records-at
+  abbrev bids : List Record
+  bids = bids_in b behind-units
 
-  read_bids : bids_in (u + b - u) bids ≡ bids_on (header_of s).bids 0 s
-  read_bids =
-      let many : u + b - u ≡ (header_of s).bids = omega (arith, bids-are) in
-      ap (λ (n : ℕ). bids_in n bids) many ∙ ap (bids_in (header_of s).bids) bids_body
-      ∙ bids_whole s m (header_of s).bids 0 (19 * u) (omega (arith, units-are)) (omega (arith, enough, bids-are))
+  abbrev limits : List Record
+  limits = limits_in t behind-bids
 
-  read_limits : limits_in (u + b + t - (u + b)) limits ≡ limits_on (header_of s).limits 0 s
-  read_limits =
-      let many : u + b + t - (u + b) ≡ (header_of s).limits = omega (arith, limits-are) in
-      let at : limits ≡ drop (19 * u + 9 * (u + b - u)) (body m s) = limits-at ∙ ap (drop (9 * (u + b - u))) bids_body ∙ drop-drop (9 * (u + b - u)) (19 * u) (body m s) in
-      ap (λ (n : ℕ). limits_in n limits) many ∙ ap (limits_in (header_of s).limits) at
-      ∙ limits_whole s m (header_of s).limits 0 (19 * u + 9 * (u + b - u)) (omega (arith, units-are, bids-are)) (omega (arith, enough, limits-are))
+  whole : body_records h s ≡ units ++ (bids ++ limits)
+  whole =
+      let at : behind-units ≡ drop (19 * h.units) s = bids-from ∙ ap (λ (n : ℕ). drop (19 * n) s) units-are in
+      let on : behind-bids ≡ drop (9 * h.bids) (drop (19 * h.units) s) = limits-from ∙ (λ i. drop (9 * bids-are i) (at i)) in
+      sym (λ i. units_in (units-are i) s ++ (bids_in (bids-are i) (at i) ++ limits_in (limits-are i) (on i)))
 
-  abbrev limits-part : Desk → Outcome
-  limits-part = load_from L N (u + b) (limits_in (u + b + t - (u + b)) limits)
+  abbrev all : Desk → Outcome
+  all = load_from L N 0 (body_records h s)
 
-  abbrev bids-part : Desk → Outcome
-  bids-part = load_from L N u (bids_in (u + b - u) bids)
+  units_first : (d : Desk) → all d ≡ onward (load_from L N 0 units d).0 (load_from L N 0 units d).1 (load_from L N u (bids ++ limits))
+  units_first d =
+      let many = many_in 19 (λ x. unit (unit_at x)) u s in
+      ap (λ (rs : List Record). load_from L N 0 rs d) whole ∙ in_parts L N 0 u units (bids ++ limits) d (omega (arith, many))
 
-  abbrev rest_part : Desk → Outcome
-  rest_part = load_from L N u (bids_in (u + b - u) bids ++ limits_in (u + b + t - (u + b)) limits)
-
-  abbrev units-part : Outcome
-  units-part = load_from L N 0 (units_in u records) (d.0, opened_to L N grid_count d.1)
-
-  -- The load, with its units first.
-  units_first : loaded L N s d ≡ onward units-part.0 units-part.1 rest_part
-  units_first =
-      let whole : records_of s ≡ units_in u records ++ (bids_in (u + b - u) bids ++ limits_in (u + b + t - (u + b)) limits) =
-      ap (λ (xs : List Record). xs ++ (bids_on (header_of s).bids 0 s ++ limits_on (header_of s).limits 0 s)) (sym read_units)
-      ∙ ap (λ (xs : List Record). units_in u records ++ (xs ++ limits_on (header_of s).limits 0 s)) (sym read_bids)
-      ∙ ap (λ (xs : List Record). units_in u records ++ (bids_in (u + b - u) bids ++ xs)) (sym read_limits) in
-      let many : length (units_in u records) ≡ u = ap length read_units ∙ many_units (header_of s).units 0 s ∙ sym units-are in
-      begins L N s d none ∙ ap (λ (xs : List Record). load_from L N 0 xs (d.0, opened_to L N grid_count d.1)) whole
-      ∙ in_parts L N 0 u (units_in u records) (bids_in (u + b - u) bids ++ limits_in (u + b + t - (u + b)) limits) (d.0, opened_to L N grid_count d.1) (omega (arith, many))
-
-  bids_then : (x : Desk) → rest_part x ≡ onward (bids-part x).0 (bids-part x).1 limits-part
-  bids_then x =
-      let many : length (bids_in (u + b - u) bids) ≡ b = ap length read_bids ∙ many_bids (header_of s).bids 0 s ∙ sym bids-are in
-      in_parts L N u (u + b) (bids_in (u + b - u) bids) (limits_in (u + b + t - (u + b)) limits) x (omega (arith, many))
+  bids_then : (d : Desk) → load_from L N u (bids ++ limits) d ≡ onward (load_from L N u bids d).0 (load_from L N u bids d).1 (load_from L N (u + b) limits)
+  bids_then d =
+      let many = many_in 9 (λ x. bid (bid_at x)) b behind-units in
+      in_parts L N u (u + b) bids limits d (omega (arith, many))
 
   -- A unit ended it.
-  pub units_ended : (x : Desk) (e : Refusal × ℕ) → units-part ≡ (x, Some e) → loaded L N s d ≡ (x, Some e)
-  units_ended x e is = units_first ∙ ap (λ (y : Outcome). onward y.0 y.1 rest_part) is
+  pub units_ended : (d x : Desk) (e : Refusal × ℕ) → load_from L N 0 units d ≡ (x, Some e) → all d ≡ (x, Some e)
+  units_ended d x e is = units_first d ∙ ap (λ (y : Outcome). onward y.0 y.1 (load_from L N u (bids ++ limits))) is
+
+  -- What came behind the units.
+  units_took : (d x : Desk) (o : Outcome) → load_from L N 0 units d ≡ (x, None) → load_from L N u (bids ++ limits) x ≡ o → all d ≡ o
+  units_took d x o is then = units_first d ∙ ap (λ (y : Outcome). onward y.0 y.1 (load_from L N u (bids ++ limits))) is ∙ then
 
   -- A bid ended it.
-  pub bids_ended : (x y : Desk) (e : Refusal × ℕ) → units-part ≡ (x, None) → bids-part x ≡ (y, Some e) → loaded L N s d ≡ (y, Some e)
-  bids_ended x y e is then =
-      units_first ∙ ap (λ (z : Outcome). onward z.0 z.1 rest_part) is ∙ bids_then x ∙ ap (λ (z : Outcome). onward z.0 z.1 limits-part) then
+  pub bids_ended : (d x y : Desk) (e : Refusal × ℕ) → load_from L N 0 units d ≡ (x, None) → load_from L N u bids x ≡ (y, Some e) → all d ≡ (y, Some e)
+  bids_ended d x y e is then = units_took d x (y, Some e) is (bids_then x ∙ ap (λ (z : Outcome). onward z.0 z.1 (load_from L N (u + b) limits)) then)
 
   -- The limits came last.
-  pub limits_last : (x y : Desk) (o : Outcome) → units-part ≡ (x, None) → bids-part x ≡ (y, None) → limits-part y ≡ o → loaded L N s d ≡ o
-  limits_last x y o is then last =
-      units_first ∙ ap (λ (z : Outcome). onward z.0 z.1 rest_part) is ∙ bids_then x ∙ ap (λ (z : Outcome). onward z.0 z.1 limits-part) then ∙ last
+  pub limits_last : (d x y : Desk) (o : Outcome) → load_from L N 0 units d ≡ (x, None) → load_from L N u bids x ≡ (y, None) → load_from L N (u + b) limits y ≡ o → all d ≡ o
+  limits_last d x y o is then last = units_took d x o is (bids_then x ∙ ap (λ (z : Outcome). onward z.0 z.1 (load_from L N (u + b) limits)) then ∙ last)

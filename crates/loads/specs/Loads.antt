@@ -1,5 +1,5 @@
 -- What a load makes of a day and a screen's settings, record after record.
-use Rattle.std.specs.Prelude.{◌≡◌, ℕ, zero, suc, ◌+◌, List, [], ◌∷◌, ◌++◌, drop, Some, None, Option, nat_le}
+use Rattle.std.specs.Prelude.{◌≡◌, ℕ, zero, suc, ◌+◌, ◌*◌, List, [], ◌∷◌, ◌++◌, drop, Some, None, Option, nat_le}
 use Rattle.market.specs.Maxima.{grid_count, point_count, max_limit}
 use Rattle.market.specs.Refusals.{refusal_of}
 use Rattle.market.specs.Rows.{Row, row, topmost}
@@ -12,6 +12,7 @@ use Rattle.book.specs.Views.{View}
 use Rattle.book.specs.Tables.{is_cleared, refusal}
 use Rattle.book.specs.Histories.{turn}
 use Rattle.sheet.specs.Layout.{header_of, unit_at, bid_at, limit_at, unit_bytes, bid_bytes, limit_bytes, unit_of, bid_of, limit_of, tariff_of, sheet_rows, strip_rows}
+use Rattle.sheet.specs.declared.header.Header.{Header}
 use Rattle.sheet.specs.declared.records.BidRecord.{BidRecord}
 use Rattle.sheet.specs.declared.records.LimitRecord.{LimitRecord}
 
@@ -21,18 +22,20 @@ pub data Record : Type 0 where
   bid : BidRecord → Record
   limit : LimitRecord → Record
 
+-- the next n records, from the number k on
+abbrev pub records_on : (ℕ → Record) → ℕ → ℕ → List Record
+records_on nth zero k = []
+records_on nth (suc n) k = nth k ∷ records_on nth n (suc k)
+
 -- the next n units, bids, limits of a sheet, from the number k on
 abbrev pub units_on : ℕ → ℕ → List ℕ → List Record
-units_on zero k s = []
-units_on (suc n) k s = unit (unit_of s k) ∷ units_on n (suc k) s
+units_on n k s = records_on (λ j. unit (unit_of s j)) n k
 
 abbrev pub bids_on : ℕ → ℕ → List ℕ → List Record
-bids_on zero k s = []
-bids_on (suc n) k s = bid (bid_of s k) ∷ bids_on n (suc k) s
+bids_on n k s = records_on (λ j. bid (bid_of s j)) n k
 
 abbrev pub limits_on : ℕ → ℕ → List ℕ → List Record
-limits_on zero k s = []
-limits_on (suc n) k s = limit (limit_of s k) ∷ limits_on n (suc k) s
+limits_on n k s = records_on (λ j. limit (limit_of s j)) n k
 
 -- the records of a sheet in file order: units, then bids, then limits
 abbrev pub records_of : List ℕ → List Record
@@ -148,15 +151,21 @@ tariffs_from (suc n) g s v = tariff_on (refusal v (call.tariff g (tariff_of s g)
 abbrev pub stripped : List ℕ → View → View × Option (Refusal × ℕ)
 stripped s v = strip_begun (topmost (strip_rows s)) v (tariffs_from 17 0 s v)
 
--- the first n units, bids, limits that stand at the start of bytes, one behind the other
+-- the first n records that stand at the start of bytes, one behind the other, each of so many bytes
+abbrev pub records_in : ℕ → (List ℕ → Record) → ℕ → List ℕ → List Record
+records_in size first zero s = []
+records_in size first (suc n) s = first s ∷ records_in size first n (drop size s)
+
+-- the first n units, bids, limits that stand there
 abbrev pub units_in : ℕ → List ℕ → List Record
-units_in zero s = []
-units_in (suc n) s = unit (unit_at s) ∷ units_in n (drop unit_bytes s)
+units_in = records_in unit_bytes (λ s. unit (unit_at s))
 
 abbrev pub bids_in : ℕ → List ℕ → List Record
-bids_in zero s = []
-bids_in (suc n) s = bid (bid_at s) ∷ bids_in n (drop bid_bytes s)
+bids_in = records_in bid_bytes (λ s. bid (bid_at s))
 
 abbrev pub limits_in : ℕ → List ℕ → List Record
-limits_in zero s = []
-limits_in (suc n) s = limit (limit_at s) ∷ limits_in n (drop limit_bytes s)
+limits_in = records_in limit_bytes (λ s. limit (limit_at s))
+
+-- the records that stand in the bytes behind a header: units, then bids, then limits
+abbrev pub body_records : Header → List ℕ → List Record
+body_records h s = units_in h.units s ++ (bids_in h.bids (drop (unit_bytes * h.units) s) ++ limits_in h.limits (drop (bid_bytes * h.bids) (drop (unit_bytes * h.units) s)))

@@ -1,34 +1,42 @@
 // Why a load is declined: the refusal of the sheet, the market or the screen, with the position of the record at fault.
 ghost use Rattle.std.specs.Prelude.{◌≡◌};
-ghost use Rattle.loads.specs.Faults.{refusal_in, position_in, market_at, screen_at};
+ghost use Rattle.loads.specs.Faults.{record_refusal, refusal_in, position_in};
 ghost use Rattle.loads.specs.declared.faults.LoadFault.TheVariants as fault;
+ghost use Rattle.loads.specs.declared.faults.RecordFault.TheVariants as record_fault;
 
 use market::refusals::{MarketRefusal, Refusal, ScreenRefusal, SheetRefusal};
 
-#[derive(Clone, Copy)]
+// Who declines a record, and why.
+#[derive(Clone, Copy, PartialEq, Eq, Debug)]
+pub enum RecordFault {
+    Market(MarketRefusal),
+    Screen(ScreenRefusal),
+}
+
+#[derive(Clone, Copy, PartialEq, Eq, Debug)]
 pub enum LoadFault {
     // The sheet or the strip cannot be read.
     Sheet(SheetRefusal),
     // The day takes no sheet.
     State(MarketRefusal),
-    // The market declines the record at the position, counted from 0.
-    Market { fault: MarketRefusal, position: u32 },
-    // The screen declines the record at the position, counted from 0.
-    Screen { fault: ScreenRefusal, position: u32 },
+    // The record at the position, counted from 0, is declined.
+    Record { fault: RecordFault, position: u32 },
 }
 
-// A refusal of the market at a position.
-#[derive(Clone, Copy)]
-pub struct MarketAt {
-    pub fault: MarketRefusal,
-    pub position: u32,
+impl From<MarketRefusal> for RecordFault {
+    ghost from_gives = { λ e r. r ≡ record_fault.Market e };
+
+    fn from(e: MarketRefusal) -> RecordFault {
+        RecordFault::Market(e)
+    }
 }
 
-// A refusal of the screen at a position.
-#[derive(Clone, Copy)]
-pub struct ScreenAt {
-    pub fault: ScreenRefusal,
-    pub position: u32,
+impl From<ScreenRefusal> for RecordFault {
+    ghost from_gives = { λ e r. r ≡ record_fault.Screen e };
+
+    fn from(e: ScreenRefusal) -> RecordFault {
+        RecordFault::Screen(e)
+    }
 }
 
 impl From<SheetRefusal> for LoadFault {
@@ -47,69 +55,37 @@ impl From<MarketRefusal> for LoadFault {
     }
 }
 
-impl From<MarketAt> for LoadFault {
-    ghost from_gives = { λ e r. r ≡ fault.Market e.fault e.position };
+impl From<RecordFault> for Refusal {
+    ghost from_gives = { λ e r. r ≡ record_refusal e };
 
-    fn from(e: MarketAt) -> LoadFault {
-        LoadFault::Market {
-            fault: e.fault,
-            position: e.position,
+    fn from(e: RecordFault) -> Refusal {
+        match e {
+            RecordFault::Market(refusal) => Refusal::from(refusal),
+            RecordFault::Screen(refusal) => Refusal::from(refusal),
         }
     }
 }
 
-impl From<ScreenAt> for LoadFault {
-    ghost from_gives = { λ e r. r ≡ fault.Screen e.fault e.position };
+impl From<LoadFault> for Refusal {
+    ghost from_gives = { λ e r. r ≡ refusal_in e };
 
-    fn from(e: ScreenAt) -> LoadFault {
-        LoadFault::Screen {
-            fault: e.fault,
-            position: e.position,
+    fn from(e: LoadFault) -> Refusal {
+        match e {
+            LoadFault::Sheet(refusal) => Refusal::from(refusal),
+            LoadFault::State(refusal) => Refusal::from(refusal),
+            LoadFault::Record { fault, .. } => Refusal::from(fault),
         }
     }
 }
 
 impl LoadFault {
-    // The refusal that it encloses.
-    pub fn refusal(self) -> Refusal
-        ensures { result ≡ refusal_in self }
-    {
-        match self {
-            LoadFault::Sheet(fault) => fault.refusal(),
-            LoadFault::State(fault) => fault.refusal(),
-            LoadFault::Market { fault, .. } => fault.refusal(),
-            LoadFault::Screen { fault, .. } => fault.refusal(),
-        }
-    }
-
     // The position of the record at fault, 0 where there is none.
     pub fn position(self) -> u32
         ensures { result ≡ position_in self }
     {
         match self {
             LoadFault::Sheet(_) | LoadFault::State(_) => 0,
-            LoadFault::Market { position, .. } => position,
-            LoadFault::Screen { position, .. } => position,
+            LoadFault::Record { position, .. } => position,
         }
-    }
-}
-
-// The market's answer with the position of the record.
-pub(crate) fn market_at(answer: Result<(), MarketRefusal>, position: u32) -> Result<(), MarketAt>
-    ensures { result ≡ market_at answer position }
-{
-    match answer {
-        Ok(()) => Ok(()),
-        Err(fault) => Err(MarketAt { fault, position }),
-    }
-}
-
-// The screen's answer with the position of the record.
-pub(crate) fn screen_at(answer: Result<(), ScreenRefusal>, position: u32) -> Result<(), ScreenAt>
-    ensures { result ≡ screen_at answer position }
-{
-    match answer {
-        Ok(()) => Ok(()),
-        Err(fault) => Err(ScreenAt { fault, position }),
     }
 }

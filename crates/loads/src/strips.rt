@@ -4,7 +4,7 @@ ghost use Rattle.day.specs.Day.{shown};
 ghost use Rattle.loads.specs.Faults.{fault_of};
 ghost use Rattle.loads.specs.Loads.{stripped, Led};
 
-use super::faults::{LoadFault, market_at};
+use super::faults::{LoadFault, RecordFault};
 use day::RunningDay;
 use sheet::strip::strip;
 
@@ -14,8 +14,14 @@ pub fn strip_onto(day: &mut RunningDay, bytes: &[u8]) -> Result<(), LoadFault>
     ensures calls { Led (shown day.old) (shown day.new) }
 {
     let (tariffs, _) = strip(bytes)?;
-    for grid in 0..17 {
-        market_at(day.tariff(grid, tariffs[grid as usize]), grid)?;
+    // As a zip with the numbers from 0 on it did not prove: nothing is known of what an open range gives.
+    for (grid, fen) in tariffs.iter().enumerate() {
+        let position = grid as u32;
+        day.tariff(position, *fen)
+            .map_err(|refusal| LoadFault::Record {
+                fault: RecordFault::Market(refusal),
+                position,
+            })?;
     }
     Ok(())
 }

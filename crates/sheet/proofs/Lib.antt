@@ -1,4 +1,3 @@
-pub mod Behind
 pub mod Fields
 pub mod Within
 pub mod Tariffs

@@ -2,5 +2,7 @@ use Rattle.std.proofs.Common.{◌≡◌, ◌*◌, ◌≤◌, length, take, drop}
 use Rattle.sheet.specs.Layout.{tariffs_to}
 use Rattle.sheet.proofs.strip.strip.Given as goal
 
-abbrev pub invariant-loop-grid : goal.invariant-loop-grid
-invariant-loop-grid l = (length l.tariffs ≡ 17) × (take l.grid l.tariffs ≡ tariffs_to l.grid l.bytes) × (l.rest ≡ drop (2 * l.grid) l.bytes) × (2 * l.grid ≤ length l.bytes)
+-- The tariffs so far are read, and the bytes behind them are left.
+abbrev pub invariant-loop-tariff : goal.invariant-loop-tariff
+invariant-loop-tariff l =
+    (take l.tariff-index l.tariff-items ≡ tariffs_to l.tariff-index l.bytes) × (l.rest ≡ drop (2 * l.tariff-index) l.bytes) × (2 * l.tariff-index ≤ length l.bytes)
