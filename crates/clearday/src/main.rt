@@ -1,132 +1,149 @@
 #![tactic(auto)]
 
 // Clears a day: reads a strip of tariffs and the sheets behind it from standard input, and prints the lines that they bring.
-ghost use Rattle.std.specs.Prelude.{◌≤◌, length, IfOk};
+ghost use Rattle.std.specs.Prelude.{◌≡◌, ◌≤◌, IfSome, length};
 ghost use Rattle.market.specs.Maxima.{listing_room};
+ghost use Rattle.clearday.specs.declared.TheConstants.{WINDOW_ROOM};
 
-use desk::{Desk, wanted};
+use desk::{Desk, STRIP_BYTES, Step, wanted};
+use listings::LISTING_ROOM;
+use market::maxima::POINTS;
 use std::io;
 use std::io::{Read, Write};
 
-// The bytes of a strip, and of the header of a sheet.
-const STRIP_BYTES: usize = 34;
+// The bytes that any stated length of a sheet fits into.
+const WINDOW_ROOM: usize = 65_535;
 
-const HEADER_BYTES: usize = 10;
-
-// The points of a day. A sheet behind them is declined.
-const POINTS: u32 = 96;
-
-// Reads on until the window holds the bytes wanted or is full, or the input ends. Answers how many it holds.
-fn fill<R: Read>(input: &mut R, window: &mut [u8], held: usize, want: usize) -> io::Result<usize>
-    requires { held ≤ length window.old }
-    ensures { IfOk result (λ n. n ≤ length window.new) }
-{
-    let mut filled = held;
-    for _ in 0..window.len() {
-        if filled >= want || filled >= window.len() {
-            break;
-        }
-        let count = input.read(&mut window[filled..])?;
-        if count == 0 {
-            break;
-        }
-        filled += count;
-    }
-    Ok(filled)
+// An input, and the bytes that were read of it and not yet worked. They lie in a table of fixed length, so that reading needs no memory.
+#[derive(Drop)]
+struct Window<R: Read> {
+    input: R,
+    bytes: [u8; WINDOW_ROOM],
+    count: usize,
+    ghost within: { count ≤ WINDOW_ROOM },
 }
 
-// Reads on until the window decides the next sheet, or the input ends. Behind the last point one byte does.
-fn fill_sheet<R: Read>(
-    input: &mut R,
-    window: &mut [u8],
-    held: usize,
-    posted: u32,
-) -> io::Result<usize>
-    requires { held ≤ length window.old }
-    ensures { IfOk result (λ n. n ≤ length window.new) }
-{
-    if posted >= POINTS {
-        return fill(input, window, held, 1);
+impl<R: Read> Window<R> {
+    // Nothing is read yet.
+    fn new(input: R) -> Window<R> {
+        Window {
+            input,
+            bytes: [0; WINDOW_ROOM],
+            count: 0,
+        }
     }
-    let headed = fill(input, window, held, HEADER_BYTES)?;
-    let want = wanted(&window[..headed]);
-    fill(input, window, headed, want)
+
+    // The bytes that it holds.
+    fn held(&self) -> &[u8]
+        ensures { length result.now ≡ self.now.count }
+    {
+        &self.bytes[..self.count]
+    }
+
+    // Reads on until the window holds the bytes wanted or is full, or the input ends.
+    fn fill(&mut self, want: usize) -> io::Result<()> {
+        for _ in 0..WINDOW_ROOM {
+            if self.count >= want || self.count >= WINDOW_ROOM {
+                break;
+            }
+            let read = self.input.read(&mut self.bytes[self.count..])?;
+            if read == 0 {
+                break;
+            }
+            self.count += read;
+        }
+        Ok(())
+    }
+
+    // Reads on until the window decides the next sheet, or the input ends: first the header, and then the stated length.
+    // Behind the last point one byte does.
+    fn fill_sheet(&mut self, posted: u8) -> io::Result<()> {
+        if posted >= POINTS {
+            return self.fill(1);
+        }
+        let header = wanted(self.held());
+        self.fill(header)?;
+        let stated = wanted(self.held());
+        self.fill(stated)
+    }
+
+    // The first bytes leave the window.
+    fn pass(&mut self, read: usize)
+        requires { read ≤ self.old.count }
+    {
+        self.bytes.copy_within(read..self.count, 0);
+        self.count -= read;
+    }
 }
 
-// Works the sheets, one behind the other, and prints what each brings. Bytes that were worked leave the window.
+// Prints what a step wrote, and answers whether the day goes on. The bytes that the step read then leave the window.
+fn print_step<R: Read, W: Write>(
+    window: &mut Window<R>,
+    output: &mut W,
+    out: &[u8; LISTING_ROOM],
+    step: Step,
+) -> io::Result<bool>
+    requires wrote { step.wrote ≤ listing_room }
+    requires read { IfSome step.read (λ n. n ≤ window.old.count) }
+{
+    output.write_all(&out[..step.wrote])?;
+    let Some(read) = step.read else {
+        return Ok(false);
+    };
+    window.pass(read);
+    Ok(true)
+}
+
+// Works the sheets, one behind the other, and prints what each brings.
 fn work_sheets<R: Read, W: Write>(
-    input: &mut R,
+    window: &mut Window<R>,
     output: &mut W,
     desk: &mut Desk,
-    window: &mut [u8],
-    filled: usize,
-    out: &mut [u8],
-) -> io::Result<()>
-    requires held { filled ≤ length window.old }
-    requires room { listing_room ≤ length out.old }
-{
-    let mut held = filled;
+    out: &mut [u8; LISTING_ROOM],
+) -> io::Result<()> {
     for posted in 0..=POINTS {
-        held = fill_sheet(input, window, held, posted)?;
-        if held == 0 {
+        window.fill_sheet(posted)?;
+        if window.held().is_empty() {
             break;
         }
-        let Ok(step) = desk.work_sheet(&window[..held], out) else {
+        let Ok(step) = desk.work_sheet(window.held(), out) else {
             break;
         };
-        let wrote = step.wrote;
-        output.write_all(&out[..wrote])?;
-        if !step.goes_on {
+        if !print_step(window, output, out, step)? {
             break;
         }
-        let read = step.read;
-        window.copy_within(read..held, 0);
-        held -= read;
     }
     Ok(())
 }
 
 // Works the strip, and then the sheets behind it.
 fn work<R: Read, W: Write>(
-    input: &mut R,
+    window: &mut Window<R>,
     output: &mut W,
     desk: &mut Desk,
-    window: &mut [u8],
-    out: &mut [u8],
-) -> io::Result<()>
-    requires { listing_room ≤ length out.old }
-{
-    let held = fill(input, window, 0, STRIP_BYTES)?;
-    let Ok(step) = desk.work_strip(&window[..held], out) else {
+    out: &mut [u8; LISTING_ROOM],
+) -> io::Result<()> {
+    window.fill(STRIP_BYTES)?;
+    let Ok(step) = desk.work_strip(window.held(), out) else {
         return Ok(());
     };
-    let wrote = step.wrote;
-    output.write_all(&out[..wrote])?;
-    if !step.goes_on {
-        return Ok(());
+    if print_step(window, output, out, step)? {
+        work_sheets(window, output, desk, out)?;
     }
-    let read = step.read;
-    window.copy_within(read..held, 0);
-    work_sheets(input, output, desk, window, held - read, out)
-}
-
-// Works the input through a window that any stated length fits into, closes the day and prints its accounts.
-fn run(rt: &HostRuntime) -> anyhow::Result<()> {
-    let mut window = [0; 65_535];
-    let mut out = [0; 8_192];
-    let mut input = rt.stdin();
-    let mut output = rt.stdout();
-    let mut desk = Desk::start();
-    let worked = work(&mut input, &mut output, &mut desk, &mut window, &mut out);
-    let closed = desk.close(&mut out);
-    worked?;
-    let Ok(wrote) = closed else {
-        return Ok(());
-    };
-    output.write_all(&out[..wrote])?;
     Ok(())
 }
 
+// Works the input, closes the day and prints its accounts.
 fn main(rt: HostRuntime) -> anyhow::Result<()> {
-    run(&rt)
+    let mut window = Window::new(rt.stdin());
+    let mut output = rt.stdout();
+    let mut out = [0; LISTING_ROOM];
+    let mut desk = Desk::start();
+    let worked = work(&mut window, &mut output, &mut desk, &mut out);
+    let closed = desk.close(&mut out);
+    worked?;
+    if let Ok(wrote) = closed {
+        output.write_all(&out[..wrote])?;
+    }
+    Ok(())
 }

@@ -1,5 +1,5 @@
 -- A step on a window that decides is a step on the whole of what is left.
-use Rattle.std.proofs.Common.{◌≡◌, ℕ, ◌+◌, ◌≤◌, cond, leb, List, ◌++◌, length, Some, None, Option, sym, ap, ◌∙◌, inl, inr, arith}
+use Rattle.std.proofs.Common.{◌≡◌, ℕ, ◌+◌, ◌≤◌, cond, leb, List, ◌++◌, length, IfSome, Some, None, Option, sym, ap, ◌∙◌, inl, inr, arith}
 use Rattle.std.proofs.lemmas.List.{length-append}
 use Rattle.std.proofs.lemmas.Bool.{cond-true, le-leb}
 use Rattle.market.specs.Maxima.{grid_count, point_count}
@@ -11,7 +11,7 @@ use Rattle.lines.specs.Lines.{written}
 use Rattle.sheet.specs.Layout.{header_of, sheet_rows, strip_bytes}
 use Rattle.loads.specs.Loads as loads
 use Rattle.loads.specs.Loads.{Outcome, begun, either, load_from, opened_to, records_of}
-use Rattle.desk.specs.Texts.{read_of, goes_on, strip_text, sheet_text, sheet_desk, strip_outcome, sheet_outcome}
+use Rattle.desk.specs.Texts.{read_of, strip_text, sheet_text, sheet_desk, strip_outcome, sheet_outcome}
 use Rattle.desk.specs.Steps.{Decided, StripWorked, SheetWorked}
 use Rattle.desk.specs.declared.Desk.{Desk}
 use Rattle.desk.specs.declared.Step.{Step}
@@ -26,6 +26,11 @@ full_declines s d full =
     ap (λ (o : Option Refusal). begun (either o (topmost (sheet_rows s (d.0.posted + 1)))) d rest)
     (cond-true (leb point_count d.0.posted) (Some (refusal_of 1 2 0)) (cond (is_cleared d.0.stage) (Some (refusal_of 2 2 0)) None) (le-leb point_count d.0.posted full))
 
+-- What is within bytes is within them and more.
+within_more : (o : Option ℕ) (s rest : List ℕ) → IfSome o (λ n. n ≤ length s) → IfSome o (λ n. n ≤ length (s ++ rest))
+within_more None s rest within = tt
+within_more (Some n) s rest within = omega (arith, within, length-append s rest)
+
 module _ (s rest : List ℕ) (d : loads.Desk) (buffer : List ℕ) (desk : Desk) (out : List ℕ) (step : Step) (worked : SheetWorked s d buffer desk out step) where
   sheet_alike :
       sheet_outcome s d ≡ sheet_outcome (s ++ rest) d → read_of (sheet_outcome s d).1 (header_of s).length ≡ read_of (sheet_outcome (s ++ rest) d).1 (header_of (s ++ rest)).length
@@ -37,8 +42,7 @@ module _ (s rest : List ℕ) (d : loads.Desk) (buffer : List ℕ) (desk : Desk) 
         wrote = worked.wrote ∙ ap (λ (o : Outcome). length (sheet_text o)) same;
         few = worked.few;
         read = worked.read ∙ reads;
-        within = omega (arith, worked.within, length-append s rest);
-        on = worked.on ∙ ap (λ (o : Outcome). goes_on o.1) same;
+        within = within_more step.read s rest worked.within;
       }
 
   pub sheet_ahead : Decided s d → SheetWorked (s ++ rest) d buffer desk out step
@@ -64,6 +68,5 @@ strip_ahead s rest d buffer desk out step enough worked =
       wrote = worked.wrote ∙ ap (λ (o : Outcome). length (strip_text o)) same;
       few = worked.few;
       read = worked.read ∙ ap (λ (o : Outcome). read_of o.1 strip_bytes) same;
-      within = omega (arith, worked.within, length-append s rest);
-      on = worked.on ∙ ap (λ (o : Outcome). goes_on o.1) same;
+      within = within_more step.read s rest worked.within;
     }

@@ -1,5 +1,5 @@
 -- Tables of refusals of which no row applies.
-use Rattle.std.proofs.Common.{◌≡◌, Bool, true, false, cond, [], ◌∷◌, Some, None, Option, refl, ◌∙◌, arith}
+use Rattle.std.proofs.Common.{◌≡◌, ℕ, Bool, true, false, cond, [], ◌∷◌, Some, None, Option, refl, ◌∙◌, arith}
 use Rattle.std.proofs.lemmas.Bool.{cond-false}
 use Rattle.market.specs.Rows.{row, topmost}
 use Rattle.market.specs.declared.refusals.Refusal.{Refusal}
@@ -7,6 +7,10 @@ use Rattle.market.specs.declared.refusals.Refusal.{Refusal}
 -- Something is not nothing.
 pub some_none : {X : Type 0} (x : X) → Some x ≡ None → ⊥
 some_none x is = grind (arith, is)
+
+-- Two answers that are the same have the same number.
+pub some_same : (m n : ℕ) → Some m ≡ Some n → m ≡ n
+some_same m n is = cc
 
 -- None of three rows applies.
 pub none_of_three : (a b c : Bool) (x y z : Refusal) → a ≡ false → b ≡ false → c ≡ false → topmost (row a x ∷ row b y ∷ row c z ∷ []) ≡ None

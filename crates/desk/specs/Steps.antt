@@ -1,5 +1,5 @@
 -- What a step of the desk leaves, writes and answers.
-use Rattle.std.specs.Prelude.{◌≡◌, ℕ, suc, ◌+◌, ◌<◌, ◌≤◌, true, false, ◌⊎◌, List, ◌++◌, length, Option}
+use Rattle.std.specs.Prelude.{◌≡◌, ℕ, suc, ◌+◌, ◌<◌, ◌≤◌, true, false, ◌⊎◌, List, ◌++◌, length, IfSome, Option}
 use Rattle.market.specs.Maxima.{point_count, listing_room}
 use Rattle.market.specs.declared.refusals.Refusal.{Refusal}
 use Rattle.book.specs.Calls.{Call}
@@ -12,7 +12,7 @@ use Rattle.lines.specs.Lines.{written}
 use Rattle.listings.specs.Listings.{closing_listing}
 use Rattle.loads.specs.Loads as loads
 use Rattle.sheet.specs.Layout.{header_of, strip_bytes}
-use Rattle.desk.specs.Texts.{read_of, goes_on, strip_text, sheet_text, sheet_desk, strip_outcome, sheet_outcome, sheets_text, needed_bytes}
+use Rattle.desk.specs.Texts.{read_of, strip_text, sheet_text, sheet_desk, strip_outcome, sheet_outcome, sheets_text, needed_bytes}
 use Rattle.desk.specs.declared.Desk.{Desk}
 use Rattle.desk.specs.declared.Step.{Step}
 
@@ -29,15 +29,14 @@ abbrev pub Listed : View → Type 0
 Listed v = (v.posted < point_count) × (is_cleared v.stage ≡ true)
 
 -- A step of a desk on a window, with a buffer: the desk after it, the text from the start of the buffer on, how long it is,
--- how many bytes of the window were read, and whether the day goes on.
+-- and how many bytes of the window were read where the day goes on.
 pub record Worked (text : List ℕ) (after : loads.Desk) (ended : Option (Refusal × ℕ)) (reads : ℕ) (window buffer : List ℕ) (desk : Desk) (out : List ℕ) (step : Step) : Type 0 where
   pub shows : desk_of desk ≡ after
   pub bytes : out ≡ written buffer 0 text
   pub wrote : step.wrote ≡ length text
   pub few : step.wrote ≤ listing_room
   pub read : step.read ≡ read_of ended reads
-  pub within : step.read ≤ length window
-  pub on : step.goes_on ≡ goes_on ended
+  pub within : IfSome step.read (λ n. n ≤ length window)
 
 abbrev pub StripWorked : List ℕ → loads.Desk → List ℕ → Desk → List ℕ → Step → Type 0
 StripWorked s d buffer = Worked (strip_text (strip_outcome s d)) (strip_outcome s d).0 (strip_outcome s d).1 strip_bytes s buffer
@@ -73,5 +72,4 @@ EndsWell text = ∥ ((h : List Call) × (before : List ℕ) × (text ≡ before 
 pub record Added (s : List ℕ) (before after : loads.Desk) (step : Step) : Type 0 where
   pub shows : after ≡ sheet_desk (sheet_outcome s before)
   pub read : step.read ≡ read_of (sheet_outcome s before).1 (header_of s).length
-  pub within : step.read ≤ length s
-  pub on : step.goes_on ≡ goes_on (sheet_outcome s before).1
+  pub within : IfSome step.read (λ n. n ≤ length s)

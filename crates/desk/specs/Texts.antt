@@ -1,5 +1,5 @@
 -- All that is printed for an input: what its strip and its sheets bring, and the accounts of the closed day.
-use Rattle.std.specs.Prelude.{ℕ, zero, suc, Bool, true, false, cond, List, [], ◌∷◌, ◌++◌, length, drop, replicate, Some, None, Option, ◌==◌, nat_lt, slice_index_or}
+use Rattle.std.specs.Prelude.{ℕ, zero, suc, cond, List, [], ◌∷◌, ◌++◌, length, drop, replicate, Some, None, Option, ◌==◌, nat_lt, slice_index_or}
 use Rattle.lawful.specs.Awards.{AwardSet}
 use Rattle.market.specs.Maxima.{grid_count, unit_count, max_limit, point_count}
 use Rattle.market.specs.declared.refusals.Refusal.{Refusal}
@@ -45,15 +45,10 @@ abbrev pub printed : Option (Refusal × ℕ) → List ℕ → List ℕ
 printed None text = text
 printed (Some e) text = fault_line e
 
--- whether the day goes on: no refusal ended the step
-abbrev pub goes_on : Option (Refusal × ℕ) → Bool
-goes_on None = true
-goes_on (Some e) = false
-
--- the bytes that a step read: none where a refusal ended it
-abbrev pub read_of : Option (Refusal × ℕ) → ℕ → ℕ
-read_of None n = n
-read_of (Some e) n = 0
+-- how many bytes a step read, with which the day goes on: absent where a refusal ended it
+abbrev pub read_of : Option (Refusal × ℕ) → ℕ → Option ℕ
+read_of None n = Some n
+read_of (Some e) n = None
 
 -- what a strip prints
 abbrev pub strip_text : Outcome → List ℕ

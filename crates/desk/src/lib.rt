@@ -15,20 +15,28 @@ ghost use Rattle.desk.specs.Steps.{Closes, Decided, desk_of, Entering, Listed, S
 
 pub mod whole;
 
+use arrayvec::ArrayVec;
 use day::RunningDay;
 use grids::GridScreen;
 use lines::write_line;
-use listings::{list_closing, list_point};
+use listings::{LISTING_ROOM, list_closing, list_point};
 use loads::faults::LoadFault;
 use loads::sheets::load;
 use loads::strips::strip_onto;
-use market::refusals::MarketRefusal;
+use market::refusals::{MarketRefusal, Refusal};
+pub use sheet::strip::STRIP_BYTES;
+
+// The letter of a refusal's line.
+const REFUSAL: u8 = b'E';
+
+// The bytes that a refusal's line fits into.
+const FAULT_ROOM: usize = 65;
 
 // The bytes that the text of any step fits into.
-const STEP_ROOM: usize = 8_192;
+const STEP_ROOM: usize = LISTING_ROOM;
 
-// The bytes of a strip of tariffs.
-const STRIP_BYTES: usize = 34;
+// The buffer of a step.
+type Room = [u8; STEP_ROOM];
 
 // A running day, and the grid screen that all its points are cleared through. It ends only by `close`.
 pub struct Desk {
@@ -36,13 +44,12 @@ pub struct Desk {
     screen: GridScreen,
 }
 
-// What a step did: how many bytes of its window it read, none where a refusal ended it; how many of its buffer it wrote; and whether the day
-// goes on.
-#[derive(Clone, Copy)]
+// What a step did: how many bytes of its window it read, and how many of its buffer it wrote. A step that a refusal ended read none, and the day
+// does not go on.
+#[derive(Clone, Copy, Debug, PartialEq, Eq)]
 pub struct Step {
-    pub read: usize,
+    pub read: Option<usize>,
     pub wrote: usize,
-    pub goes_on: bool,
 }
 
 // How many bytes the sheet at the start of the window needs: ten until its header is there, then its stated length.
@@ -58,34 +65,32 @@ pub fn wanted(window: &[u8]) -> usize
 }
 
 // Writes the line of a refusal from the start of the buffer on, and answers how long it is.
-fn write_fault(out: &mut [u8], fault: LoadFault) -> usize
-    requires { listing_room ≤ length out.old }
+// It copies its line out as a listing does: one function for both would be public and ask for room.
+#[tactic(auto, using(listings::proofs::Texts::three_long), unfolding(lines::specs::Lines::written))]
+fn write_fault(out: &mut Room, fault: LoadFault) -> usize
     ensures long { result ≡ length (fault_line (refusal_in fault, position_in fault)) }
     ensures few { result ≤ listing_room }
     ensures bytes { out.new ≡ written out.old 0 (fault_line (refusal_in fault, position_in fault)) }
 {
-    let refusal = fault.refusal();
+    let refusal = Refusal::from(fault);
     let number = u64::from(refusal.number);
     let layer = u64::from(refusal.layer);
     let position = u64::from(fault.position());
-    match write_line(out, 0, b'E', &[number, layer, position]) {
-        Some(end) => end,
-        None => 0,
-    }
+    let mut line = ArrayVec::<u8, FAULT_ROOM>::new();
+    let _ = write_line(&mut line, REFUSAL, &[number, layer, position]);
+    let end = line.len();
+    out[..end].copy_from_slice(line.as_slice());
+    end
 }
 
 // Writes the listing of a cleared point, and answers how long it is.
-fn write_listing(out: &mut [u8], day: &RunningDay) -> usize
-    requires point { Listed (shown day.now) }
-    requires room { listing_room ≤ length out.old }
+fn write_listing(out: &mut Room, day: &RunningDay) -> usize
+    requires { Listed (shown day.now) }
     ensures long { result ≡ length (point_listing (shown day.now)) }
     ensures few { result ≤ listing_room }
     ensures bytes { out.new ≡ written out.old 0 (point_listing (shown day.now)) }
 {
-    match list_point(day, out) {
-        Ok(end) => end,
-        Err(_) => 0,
-    }
+    list_point(day, out).unwrap_or(0)
 }
 
 impl Desk {
@@ -100,9 +105,8 @@ impl Desk {
     }
 
     // Clears the point through the screen, lists it and posts it. Answers how long the listing is.
-    fn settle(&mut self, out: &mut [u8]) -> usize
-        requires point { Entering (desk_of self.old).0 }
-        requires room { listing_room ≤ length out.old }
+    fn settle(&mut self, out: &mut Room) -> usize
+        requires { Entering (desk_of self.old).0 }
         ensures shows { desk_of self.new ≡ posted_desk (cleared_desk (desk_of self.old)) }
         ensures long { result ≡ length (point_listing (cleared_desk (desk_of self.old)).0) }
         ensures few { result ≤ listing_room }
@@ -115,43 +119,39 @@ impl Desk {
     }
 
     // Sets the tariffs of the strip at the start of the window. A refusal's line is written, and the day does not go on.
-    fn take_strip(&mut self, window: &[u8], out: &mut [u8]) -> Step
-        requires { listing_room ≤ length out.old }
+    fn take_strip(&mut self, window: &[u8], out: &mut Room) -> Step
         ensures { StripWorked window.now (desk_of self.old) out.old self.new out.new result }
     {
         match strip_onto(&mut self.day, window) {
             Ok(()) => Step {
-                read: STRIP_BYTES,
+                read: Some(STRIP_BYTES),
                 wrote: 0,
-                goes_on: true,
             },
             Err(fault) => Step {
-                read: 0,
+                read: None,
                 wrote: write_fault(out, fault),
-                goes_on: false,
             },
         }
     }
 
     // Loads the sheet at the start of the window; then the point is cleared, listed and posted. A refusal's line is written instead of the
     // listing, and the day does not go on.
-    fn take_sheet(&mut self, window: &[u8], out: &mut [u8]) -> Step
-        requires { listing_room ≤ length out.old }
+    fn take_sheet(&mut self, window: &[u8], out: &mut Room) -> Step
         ensures { SheetWorked window.now (desk_of self.old) out.old self.new out.new result }
     {
         match load(&mut self.day, &mut self.screen, window) {
             Ok(()) => Step {
-                read: wanted(window),
+                read: Some(wanted(window)),
                 wrote: self.settle(out),
-                goes_on: true,
             },
             Err(fault) => Step {
-                read: 0,
+                read: None,
                 wrote: write_fault(out, fault),
-                goes_on: false,
             },
         }
     }
+
+    // Two calls and not one for both kinds of step: each promises by bytes of its own that it needs no more of the input.
 
     // Works the strip at the start of the window; with its 34 bytes there, it is as if the whole input were there. Declined with 13 where the
     // buffer has fewer than 8,192 bytes, and nothing is altered.
@@ -161,10 +161,10 @@ impl Desk {
         ensures ahead { IfOk result (λ step. ((rest : List ℕ) → strip_bytes ≤ length window.now → StripWorked (window.now ++ rest) (desk_of self.old) out.old self.new out.new step)) }
         ensures declined { is_ok result ≡ false → (self.new ≡ self.old) × (out.new ≡ out.old) }
     {
-        if out.len() < STEP_ROOM {
+        let Some(room) = out.first_chunk_mut() else {
             return Err(MarketRefusal::ShortBuffer);
-        }
-        Ok(self.take_strip(window, out))
+        };
+        Ok(self.take_strip(window, room))
     }
 
     // Works the sheet at the start of the window; with the bytes wanted there, or behind 96 points, it is as if the whole input were there.
@@ -175,10 +175,10 @@ impl Desk {
         ensures ahead { IfOk result (λ step. ((rest : List ℕ) → Decided window.now (desk_of self.old) → SheetWorked (window.now ++ rest) (desk_of self.old) out.old self.new out.new step)) }
         ensures declined { is_ok result ≡ false → (self.new ≡ self.old) × (out.new ≡ out.old) }
     {
-        if out.len() < STEP_ROOM {
+        let Some(room) = out.first_chunk_mut() else {
             return Err(MarketRefusal::ShortBuffer);
-        }
-        Ok(self.take_sheet(window, out))
+        };
+        Ok(self.take_sheet(window, room))
     }
 
     // Closes the day and lists its accounts, and answers how long the listing is. Declined with 13 where the buffer has fewer than 8,192
@@ -196,17 +196,13 @@ impl Desk {
     }
 
     // Closes the day and writes its accounts, and answers how long they are.
-    pub(crate) fn write_closing(self, out: &mut [u8]) -> usize
-        requires { listing_room ≤ length out.old }
+    pub(crate) fn write_closing(self, out: &mut Room) -> usize
         ensures long { result ≡ length (closing_text (desk_of self)) }
         ensures few { result ≤ listing_room }
         ensures bytes { out.new ≡ written out.old 0 (closing_text (desk_of self)) }
         ensures led { LedTo (desk_of self).0 }
         ensures promise { Closes (desk_of self).0 }
     {
-        match self.close(out) {
-            Ok(end) => end,
-            Err(_) => 0,
-        }
+        self.close(out).unwrap_or(0)
     }
 }

@@ -1,24 +1,21 @@
 // A whole day in memory: from the bytes of an input to the bytes that are printed for it.
-ghost use Rattle.std.specs.Prelude.{◌≡◌, suc, ◌≤◌, ◌++◌, length, IfOk, OnOk};
-ghost use Rattle.market.specs.Maxima.{listing_room, point_count};
+ghost use Rattle.std.specs.Prelude.{◌≡◌, suc, ◌++◌, IfOk, OnOk};
+ghost use Rattle.market.specs.Maxima.{point_count};
 ghost use Rattle.day.specs.Day.{LedTo};
 ghost use Rattle.desk.specs.Texts.{closing_text, day_text, input_text, sheet_text, sheet_outcome, sheets_text};
 ghost use Rattle.desk.specs.Steps.{Added, Closes, desk_of, EndsWell, SheetsEnough};
 
-use super::{Desk, Step};
+use super::{Desk, Room, STEP_ROOM, Step};
+use market::maxima::POINTS;
 use std::alloc::{AllocError, Global};
-
-// The sheets of a day, and the one behind them that is declined.
-const MOST_SHEETS: u32 = 97;
 
 // Works one sheet, and adds what it prints to the text.
 fn add_sheet(
     desk: &mut Desk,
     sheets: &[u8],
-    out: &mut [u8],
+    out: &mut Room,
     text: &mut Vec<u8>,
 ) -> Result<Step, AllocError>
-    requires { listing_room ≤ length out.old }
     ensures sheet { IfOk result (λ step. Added sheets.now (desk_of desk.old) (desk_of desk.new) step) }
     ensures text { IfOk result (λ step. text.new.items ≡ text.old.items ++ sheet_text (sheet_outcome sheets.now (desk_of desk.old))) }
 {
@@ -32,22 +29,20 @@ fn add_sheet(
 fn add_sheets(
     desk: &mut Desk,
     sheets: &[u8],
-    out: &mut [u8],
+    out: &mut Room,
     text: &mut Vec<u8>,
 ) -> Result<(), AllocError>
-    requires { listing_room ≤ length out.old }
     ensures { OnOk result (text.new.items ++ closing_text (desk_of desk.new) ≡ text.old.items ++ sheets_text (suc point_count) (desk_of desk.old) sheets.now) }
 {
     let mut rest = sheets;
-    for turn in 0..MOST_SHEETS {
+    for turn in 0..=POINTS {
         if rest.is_empty() {
             return Ok(());
         }
         let step = add_sheet(desk, rest, out, text)?;
-        if !step.goes_on {
+        let Some(read) = step.read else {
             return Ok(());
-        }
-        let read = step.read;
+        };
         rest = &rest[read..];
     }
     Ok(())
@@ -57,25 +52,22 @@ fn add_sheets(
 fn add_input(
     desk: &mut Desk,
     input: &[u8],
-    out: &mut [u8],
+    out: &mut Room,
     text: &mut Vec<u8>,
 ) -> Result<(), AllocError>
-    requires { listing_room ≤ length out.old }
     ensures { OnOk result (text.new.items ++ closing_text (desk_of desk.new) ≡ text.old.items ++ input_text (desk_of desk.old) input.now) }
 {
     let step = desk.take_strip(input, out);
     let wrote = step.wrote;
     text.extend_from_slice(&out[..wrote])?;
-    if !step.goes_on {
+    let Some(read) = step.read else {
         return Ok(());
-    }
-    let read = step.read;
+    };
     add_sheets(desk, &input[read..], out, text)
 }
 
 // Adds the accounts of the day, closed as it stands.
-fn add_closing(desk: Desk, out: &mut [u8], text: &mut Vec<u8>) -> Result<(), AllocError>
-    requires { listing_room ≤ length out.old }
+fn add_closing(desk: Desk, out: &mut Room, text: &mut Vec<u8>) -> Result<(), AllocError>
     ensures text { OnOk result (text.new.items ≡ text.old.items ++ closing_text (desk_of desk)) }
     ensures led { LedTo (desk_of desk).0 }
     ensures promise { Closes (desk_of desk).0 }
@@ -90,7 +82,7 @@ pub fn clear_day(heap: Global, input: &[u8]) -> Result<Vec<u8>, AllocError>
     ensures accounts { IfOk result (λ text. EndsWell text.items) }
     ensures enough { SheetsEnough }
 {
-    let mut out = [0; 8192];
+    let mut out = [0; STEP_ROOM];
     let mut text = Vec::new(heap);
     let mut desk = Desk::start();
     let worked = add_input(&mut desk, input, &mut out, &mut text);

@@ -22,9 +22,9 @@ fields_of (n ∷ ns) = field n ++ fields_of ns
 unfoldable pub line_of : ℕ → List ℕ → List ℕ
 line_of letter ns = letter ∷ (fields_of ns ++ (10 ∷ []))
 
--- whether bytes fit into a buffer from a place on
-abbrev pub fits : List ℕ → ℕ → List ℕ → Bool
-fits buffer at bytes = nat_le (at + length bytes) (length buffer)
+-- whether bytes fit into so much room from a place on
+abbrev pub fits : ℕ → ℕ → List ℕ → Bool
+fits room at bytes = nat_le (at + length bytes) room
 
 -- a buffer after bytes were written into it from a place on: what lies before and behind them is as it was
 unfoldable pub written : List ℕ → ℕ → List ℕ → List ℕ

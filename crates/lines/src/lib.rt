@@ -1,96 +1,64 @@
 #![tactic(auto)]
 
-// Lines of decimal fields, written into a buffer of the caller.
-ghost use Rattle.std.specs.Prelude.{◌≡◌, ◌+◌, ◌≤◌, length, if◌then◌else◌, Some, None, nat_le};
-ghost use Rattle.lines.specs.Lines.{DigitsAreDigits, DigitsReadBack, NoLeadingZero, WorkedLine, digits, field, fields_of, fits, line_of, written};
+// Lines of decimal fields, added to a page of fixed room.
+ghost use Rattle.std.specs.Prelude.{◌≡◌, ℕ, ◌+◌, ◌≤◌, ◌↔◌, List, ◌++◌, length, is_ok, IsOk, OnOk, OnErr};
+ghost use Rattle.arrayvec.specs.ArrayVec.{array_vec_len};
+ghost use Rattle.lines.specs.Lines.{DigitsAreDigits, DigitsReadBack, NoLeadingZero, WorkedLine, field, fits, line_of};
 
-// How many digits a number has.
-fn digit_count(number: u64) -> usize
-    ensures value { result ≡ length (digits number) }
-    ensures few { result ≤ 20 }
+use arrayvec::{ArrayVec, CapacityError};
+use itoa::Buffer;
+
+// Adds a field, or a part of it where the page has no room. `itoa` gives the digits, since std's clauses promise no success of a `write!` that fits.
+#[tactic(auto, using(crate::proofs::Digits::digits_displayed))]
+fn add_field<const ROOM: usize>(
+    page: &mut ArrayVec<u8, ROOM>,
+    number: u64,
+) -> Result<(), CapacityError>
+    ensures room { IsOk result ↔ (array_vec_len page.old + length (field number) ≤ ROOM) }
+    ensures field { OnOk result (page.new.items ≡ page.old.items ++ field number) }
+    ensures kept { (more : List ℕ) × (page.new.items ≡ page.old.items ++ more) }
 {
-    let mut rest = number;
-    let mut count: usize = 1;
-    while 10 <= rest {
-        rest /= 10;
-        count += 1;
-    }
-    count
+    let mut digits = Buffer::new();
+    page.try_extend_from_slice(b" ")?;
+    page.try_extend_from_slice(digits.format(number).as_bytes())
 }
 
-// Where a line of these fields ends that starts at a place, if that is not past the limit. The letter and the last byte take two.
-fn line_end(at: usize, fields: &[u64], limit: usize) -> Option<usize>
-    ensures { result ≡ (if nat_le (at + (2 + length (fields_of fields.now))) limit then Some (at + (2 + length (fields_of fields.now))) else None) }
+// Adds a line, or a part of it where the page has no room.
+#[tactic(auto, unfolding(crate::specs::Lines::line_of))]
+fn add_line<const ROOM: usize>(
+    page: &mut ArrayVec<u8, ROOM>,
+    letter: u8,
+    fields: &[u64],
+) -> Result<(), CapacityError>
+    ensures room { IsOk result ↔ (array_vec_len page.old + length (line_of letter fields.now) ≤ ROOM) }
+    ensures line { OnOk result (page.new.items ≡ page.old.items ++ line_of letter fields.now) }
+    ensures kept { (more : List ℕ) × (page.new.items ≡ page.old.items ++ more) }
 {
-    if limit < at || limit - at < 2 {
-        return None;
-    }
-    let mut room = limit - at - 2;
+    page.try_extend_from_slice(&[letter])?;
     for number in fields {
-        let need = 1 + digit_count(*number);
-        if room < need {
-            return None;
-        }
-        room -= need;
+        add_field(page, *number)?;
     }
-    Some(limit - room)
+    page.try_extend_from_slice(b"\n")
 }
 
-// Writes the digits of a number from a place on, the last one first, and answers where they end.
-fn write_digits(buffer: &mut [u8], at: usize, number: u64) -> usize
-    requires { at + length (digits number) ≤ length buffer.old }
-    ensures end { result ≡ at + length (digits number) }
-    ensures bytes { buffer.new ≡ written buffer.old at (digits number) }
-{
-    let end = at + digit_count(number);
-    let mut place = end;
-    let mut rest = number;
-    while 10 <= rest {
-        place -= 1;
-        buffer[place] = b'0' + (rest % 10) as u8;
-        rest /= 10;
-    }
-    buffer[at] = b'0' + rest as u8;
-    end
-}
-
-// Writes a field from a place on, and answers where it ends.
-fn write_field(buffer: &mut [u8], at: usize, number: u64) -> usize
-    requires { at + length (field number) ≤ length buffer.old }
-    ensures end { result ≡ at + length (field number) }
-    ensures bytes { buffer.new ≡ written buffer.old at (field number) }
-{
-    buffer[at] = b' ';
-    write_digits(buffer, at + 1, number)
-}
-
-// Writes fields one behind the other from a place on, and answers where they end.
-fn write_fields(buffer: &mut [u8], at: usize, fields: &[u64]) -> usize
-    requires { at + length (fields_of fields.now) ≤ length buffer.old }
-    ensures end { result ≡ at + length (fields_of fields.now) }
-    ensures bytes { buffer.new ≡ written buffer.old at (fields_of fields.now) }
-{
-    let mut place = at;
-    for number in fields {
-        place = write_field(buffer, place, *number);
-    }
-    place
-}
-
-// Writes a line from a place on, and answers where it ends. None, and nothing is written, where it does not fit.
-pub fn write_line(buffer: &mut [u8], at: usize, letter: u8, fields: &[u64]) -> Option<usize>
-    ensures end { result ≡ (if fits buffer.old at (line_of letter fields.now) then Some (at + length (line_of letter fields.now)) else None) }
-    ensures bytes { buffer.new ≡ (if fits buffer.old at (line_of letter fields.now) then written buffer.old at (line_of letter fields.now) else buffer.old) }
+// Adds a line to a page. Where it does not fit the page stays as it is.
+pub fn write_line<const ROOM: usize>(
+    page: &mut ArrayVec<u8, ROOM>,
+    letter: u8,
+    fields: &[u64],
+) -> Result<(), CapacityError>
+    ensures answer { is_ok result ≡ fits ROOM (array_vec_len page.old) (line_of letter fields.now) }
+    ensures line { OnOk result (page.new.items ≡ page.old.items ++ line_of letter fields.now) }
+    ensures declined { OnErr result (page.new.items ≡ page.old.items) }
     ensures read_back { DigitsReadBack }
     ensures figures { DigitsAreDigits }
     ensures leading { NoLeadingZero }
     ensures worked { WorkedLine }
 {
-    let Some(end) = line_end(at, fields, buffer.len()) else {
-        return None;
-    };
-    buffer[at] = letter;
-    let last = write_fields(buffer, at + 1, fields);
-    buffer[last] = b'\n';
-    Some(end)
+    let held = page.len();
+    let answer = add_line(page, letter, fields);
+    if answer.is_err() {
+        page.truncate(held);
+    }
+    answer
 }

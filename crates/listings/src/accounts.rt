@@ -1,91 +1,80 @@
-// The lines of a closed day's accounts, from a place on. Each function answers where its lines end.
-ghost use Rattle.std.specs.Prelude.{◌≡◌, ◌+◌, ◌<◌, ◌≤◌, length};
-ghost use Rattle.lines.specs.Lines.{written};
-ghost use Rattle.market.specs.Maxima.{grid_count, unit_count};
+// The lines of a closed day's accounts.
+ghost use Rattle.std.specs.Prelude.{◌≡◌, ◌+◌, ◌*◌, ◌<◌, ◌≤◌, ◌++◌, IsOk, IfOk};
+ghost use Rattle.arrayvec.specs.ArrayVec.{array_vec_len};
+ghost use Rattle.market.specs.Maxima.{listing_room};
+ghost use Rattle.day.specs.Accounts.{WholeFen};
 ghost use Rattle.day.specs.Day.{accounts};
-ghost use Rattle.listings.specs.Listings.{charge_line, lines_to, unit_line, wires_line};
+ghost use Rattle.listings.specs.Parties.{account_line, account_lines, letter_of, money_of, party_count};
 
 use super::writing::write_money;
+use super::{Page, letters};
+use book::Money;
 use day::ClosedDay;
 use market::maxima::{GRIDS, UNITS};
+use market::refusals::MarketRefusal;
 
-// What one buyer was charged.
-fn write_charge(buffer: &mut [u8], at: usize, day: &ClosedDay, grid: u32) -> usize
-    requires grid { grid < 16 }
-    requires room { at + 65 ≤ length buffer.old }
-    ensures end { result ≡ at + length (charge_line (accounts day.now) grid) }
-    ensures bytes { buffer.new ≡ written buffer.old at (charge_line (accounts day.now) grid) }
-{
-    match day.charge(grid) {
-        Ok((fen, fortieths)) => write_money(buffer, at, b'C', grid, fen, fortieths),
-        Err(_) => at,
+// Those who have an account of their own: the buyers by grid, the units, and the wires by grid.
+#[derive(Clone, Copy)]
+pub enum Party {
+    Buyer,
+    Unit,
+    Wires,
+}
+
+impl Party {
+    // How many there are of its kind.
+    fn count(self) -> u32
+        ensures { result ≡ party_count self }
+    {
+        match self {
+            Party::Buyer | Party::Wires => GRIDS,
+            Party::Unit => UNITS,
+        }
+    }
+
+    // The letter of its line.
+    fn letter(self) -> u8
+        ensures { result ≡ letter_of self }
+    {
+        match self {
+            Party::Buyer => letters::CHARGE,
+            Party::Unit => letters::UNIT,
+            Party::Wires => letters::WIRES,
+        }
+    }
+
+    // What the one with a number was charged, or received.
+    fn money(self, day: &ClosedDay, number: u32) -> Result<Money, MarketRefusal>
+        requires { number < party_count self }
+        ensures there { IsOk result }
+        ensures money { IfOk result (λ m. WholeFen (money_of self (accounts day.now) number) m) }
+    {
+        match self {
+            Party::Buyer => day.charge(number),
+            Party::Unit => day.unit(number),
+            Party::Wires => day.wires(number),
+        }
     }
 }
 
-// What one unit received.
-fn write_unit(buffer: &mut [u8], at: usize, day: &ClosedDay, unit: u32) -> usize
-    requires unit { unit < 64 }
-    requires room { at + 65 ≤ length buffer.old }
-    ensures end { result ≡ at + length (unit_line (accounts day.now) unit) }
-    ensures bytes { buffer.new ≡ written buffer.old at (unit_line (accounts day.now) unit) }
+// The account of the one with a number.
+fn write_account(page: &mut Page, day: &ClosedDay, party: Party, number: u32)
+    requires number { number < party_count party }
+    requires room { array_vec_len page.old + 65 ≤ listing_room }
+    ensures { page.new.items ≡ page.old.items ++ account_line party (accounts day.now) number }
 {
-    match day.unit(unit) {
-        Ok((fen, fortieths)) => write_money(buffer, at, b'U', unit, fen, fortieths),
-        Err(_) => at,
+    if let Ok(money) = party.money(day, number) {
+        write_money(page, party.letter(), number, money);
     }
 }
 
-// What one grid received for its wires.
-fn write_wire(buffer: &mut [u8], at: usize, day: &ClosedDay, grid: u32) -> usize
-    requires grid { grid < 16 }
-    requires room { at + 65 ≤ length buffer.old }
-    ensures end { result ≡ at + length (wires_line (accounts day.now) grid) }
-    ensures bytes { buffer.new ≡ written buffer.old at (wires_line (accounts day.now) grid) }
+// The accounts of those of a kind that have money, by number.
+pub fn write_accounts(page: &mut Page, day: &ClosedDay, party: Party)
+    requires { array_vec_len page.old + 65 * party_count party ≤ listing_room }
+    ensures text { page.new.items ≡ page.old.items ++ account_lines party (accounts day.now) }
+    ensures few { array_vec_len page.new ≤ array_vec_len page.old + 65 * party_count party }
 {
-    match day.wires(grid) {
-        Ok((fen, fortieths)) => write_money(buffer, at, b'W', grid, fen, fortieths),
-        Err(_) => at,
+    for number in 0..party.count() {
+        write_account(page, day, party, number);
     }
-}
-
-// The buyers that were charged, by grid.
-pub fn write_charges(buffer: &mut [u8], at: usize, day: &ClosedDay) -> usize
-    requires { at + 1040 ≤ length buffer.old }
-    ensures end { result ≡ at + length (lines_to grid_count (charge_line (accounts day.now))) }
-    ensures few { result ≤ at + 1040 }
-    ensures bytes { buffer.new ≡ written buffer.old at (lines_to grid_count (charge_line (accounts day.now))) }
-{
-    let mut place = at;
-    for grid in 0..GRIDS {
-        place = write_charge(buffer, place, day, grid);
-    }
-    place
-}
-
-// The units that received money, by unit.
-pub fn write_units(buffer: &mut [u8], at: usize, day: &ClosedDay) -> usize
-    requires { at + 4160 ≤ length buffer.old }
-    ensures end { result ≡ at + length (lines_to unit_count (unit_line (accounts day.now))) }
-    ensures few { result ≤ at + 4160 }
-    ensures bytes { buffer.new ≡ written buffer.old at (lines_to unit_count (unit_line (accounts day.now))) }
-{
-    let mut place = at;
-    for unit in 0..UNITS {
-        place = write_unit(buffer, place, day, unit);
-    }
-    place
-}
-
-// The grids that received money for their wires, by grid.
-pub fn write_wires(buffer: &mut [u8], at: usize, day: &ClosedDay) -> usize
-    requires { at + 1040 ≤ length buffer.old }
-    ensures end { result ≡ at + length (lines_to grid_count (wires_line (accounts day.now))) }
-    ensures few { result ≤ at + 1040 }
-    ensures bytes { buffer.new ≡ written buffer.old at (lines_to grid_count (wires_line (accounts day.now))) }
-{
-    let mut place = at;
-    for grid in 0..GRIDS {
-        place = write_wire(buffer, place, day, grid);
-    }
-    place
 }

@@ -14,10 +14,10 @@ returns c =
     let x = shown c.clear.new.self in
     let y = shown c.post.new.self in
     let cleared = c.clear.ensures.day in
-    let desk = clear_leaves v x t cleared.0 c.requires.point cleared.2 in
+    let desk = clear_leaves v x t cleared.0 c.requires cleared.2 in
     let listing = c.write_listing-end.ensures in
     record {
-      shows = settle_leaves v x y t (settings_of c.clear.new.screen) cleared.0 c.requires.point cleared.2 c.post.ensures.day c.clear.ensures.set.0;
+      shows = settle_leaves v x y t (settings_of c.clear.new.screen) cleared.0 c.requires cleared.2 c.post.ensures.day c.clear.ensures.set.0;
       long = listing.long ∙ ap (λ (d : Desk). length (point_listing d.0)) desk;
       few = listing.few;
       bytes = listing.bytes ∙ ap (λ (d : Desk). written c.args.out.now 0 (point_listing d.0)) desk;

@@ -1,4 +1,4 @@
-use Rattle.std.proofs.Common.{ℕ, true, false, Some, None, refl, ◌∙◌, arith}
+use Rattle.std.proofs.Common.{ℕ, Some, None, refl, ap, ◌∙◌}
 use Rattle.market.specs.declared.refusals.Refusal.{Refusal}
 use Rattle.day.specs.Day.{shown}
 use Rattle.grids.specs.GridSets.{settings_of}
@@ -16,7 +16,7 @@ settle-requires c =
     let d : Desk = desk_of c.args.self.now in
     let x : Desk = (shown c.load.new.day, settings_of c.load.new.screen) in
     let is = load_tells w d (x, None) c.in-Ok.ensures.load in
-    record { point = accepted_entering w d x is; room = c.requires }
+    accepted_entering w d x is
 
 pub returns-in-Ok : goal.returns-in-Ok
 returns-in-Ok c =
@@ -27,8 +27,8 @@ returns-in-Ok c =
     let laid = accepted_laid w d x is in
     let settled = c.settle.ensures in
     let read = c.wanted.ensures.need ∙ needed_stated w laid.header in
-    sheet_accepted w d x c.args.out.now c.settle.new.out c.settle.new.self (record { read = c.wanted.result; wrote = c.settle.result; goes_on = true })
-    is settled.shows settled.bytes settled.long settled.few read (omega (arith, read, laid.whole)) refl
+    sheet_accepted w d x c.args.out.now c.settle.new.out c.settle.new.self (record { read = Some c.wanted.result; wrote = c.settle.result })
+    is settled.shows settled.bytes settled.long settled.few (ap Some read) laid.whole
 
 pub returns-in-Err : goal.returns-in-Err
 returns-in-Err c =
@@ -39,4 +39,4 @@ returns-in-Err c =
     let is = load_tells w d (x, Some e) c.in-Err.ensures.load in
     let line = c.write_fault.ensures in
     sheet_declined w d x c.args.out.now c.write_fault.new.out (record { day = c.load.new.day; screen = c.load.new.screen })
-    (record { read = 0; wrote = c.write_fault.result; goes_on = false }) e is refl line.bytes line.long line.few refl refl
+    (record { read = None; wrote = c.write_fault.result }) e is refl line.bytes line.long line.few refl

@@ -1,4 +1,4 @@
-use Rattle.std.proofs.Common.{ℕ, true, false, Some, None, refl}
+use Rattle.std.proofs.Common.{ℕ, Some, None, refl}
 use Rattle.market.specs.declared.refusals.Refusal.{Refusal}
 use Rattle.day.specs.Day.{shown}
 use Rattle.grids.specs.GridSets.{settings_of}
@@ -14,7 +14,7 @@ returns-in-Ok c =
     let y = shown c.strip_onto.new.day in
     let told = c.in-Ok.ensures.load in
     strip_accepted w (v, t) (y, t) c.args.out.now c.args.out.now (record { day = c.strip_onto.new.day; screen = c.args.self.now.screen })
-    (record { read = 34; wrote = 0; goes_on = true }) (strip_tells w v y t None told) refl refl refl refl (strip_long w v y told) refl
+    (record { read = Some 34; wrote = 0 }) (strip_tells w v y t None told) refl refl refl refl (strip_long w v y told)
 
 pub returns-in-Err : goal.returns-in-Err
 returns-in-Err c =
@@ -25,4 +25,4 @@ returns-in-Err c =
     let e : Refusal × ℕ = (refusal_in c.in-Err.fault, position_in c.in-Err.fault) in
     let line = c.write_fault.ensures in
     strip_declined w (v, t) (y, t) c.args.out.now c.write_fault.new.out (record { day = c.strip_onto.new.day; screen = c.args.self.now.screen })
-    (record { read = 0; wrote = c.write_fault.result; goes_on = false }) e (strip_tells w v y t (Some e) c.in-Err.ensures.load) refl line.bytes line.long line.few refl refl
+    (record { read = None; wrote = c.write_fault.result }) e (strip_tells w v y t (Some e) c.in-Err.ensures.load) refl line.bytes line.long line.few refl

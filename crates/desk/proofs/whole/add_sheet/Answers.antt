@@ -10,6 +10,6 @@ returns c =
     let text = sheet_text (sheet_outcome c.args.sheets.now (desk_of c.args.desk.now)) in
     let front = front_written c.args.out.now text c.take_sheet-step.new.out c.take_sheet-step.result.wrote worked.bytes worked.wrote in
     record {
-      sheet = record { shows = worked.shows; read = worked.read; within = worked.within; on = worked.on };
+      sheet = record { shows = worked.shows; read = worked.read; within = worked.within };
       text = c.in_ok-extend_from_slice.ensures.items ∙ ap (λ (t : List ℕ). vec_items c.args.text.now ++ t) front;
     }

@@ -1,4 +1,4 @@
-use Rattle.std.proofs.Common.{◌≡◌, ◌-◌, ◌≤◌, ◌++◌, length, vec_items}
+use Rattle.std.proofs.Common.{◌≡◌, ◌-◌, ◌≤◌, ◌++◌, vec_items}
 use Rattle.desk.specs.Texts.{sheets_text}
 use Rattle.desk.specs.Steps.{desk_of}
 use Rattle.desk.proofs.whole.add_sheets.Given as goal
@@ -7,5 +7,4 @@ use Rattle.desk.proofs.whole.add_sheets.Given as goal
 abbrev pub invariant-loop-turn : goal.invariant-loop-turn
 invariant-loop-turn l =
     (vec_items l.initial.text ++ sheets_text 97 (desk_of l.initial.desk) l.sheets ≡ vec_items l.text ++ sheets_text (97 - l.turn) (desk_of l.desk) l.rest)
-    × (8192 ≤ length l.out)
     × (l.turn ≤ 97)

@@ -2,6 +2,6 @@ use Rattle.listings.specs.Rows.{row_text}
 use Rattle.listings.proofs.LinesTo.{Listed}
 use Rattle.listings.proofs.points.write_segments.Given as goal
 
--- The lines so far are written.
+-- The lines so far are added.
 abbrev pub invariant-loop-segment : goal.invariant-loop-segment
-invariant-loop-segment l = Listed l.initial.buffer l.at (row_text l.segments) 65 l.segment-index l.buffer l.place
+invariant-loop-segment l = Listed l.initial.page.items (row_text l.segments) 65 l.segment-index l.page.items
