@@ -61,56 +61,45 @@ impl Command {
             return Ok(None);
         };
         if *verb == "screen" {
-            return Ok(Command::of_screen(rest));
+            return Ok(StackKind::named(rest).map(Command::NewScreen));
         }
-        match numbers(heap, rest)? {
-            Some(numbers) => Ok(Command::of(verb, numbers.as_slice())),
-            None => Ok(None),
-        }
-    }
-
-    fn of_screen(kinds: &[&str]) -> Option<Command> {
-        Some(Command::NewScreen(StackKind::named(kinds)?))
+        let Some(numbers) = numbers(heap, rest)? else {
+            return Ok(None);
+        };
+        Ok(Command::of(verb, numbers.as_slice()))
     }
 
     // The command of a verb and its numbers.
     fn of(verb: &str, numbers: &[u32]) -> Option<Command> {
-        if let Some(call) = DayCall::of(verb, numbers) {
-            return Some(Command::Day(call));
-        }
-        if let Some(account) = Account::of(verb, numbers) {
-            return Some(Command::Account(account));
-        }
-        if let Some(call) = ScreenCall::of(verb, numbers) {
-            return Some(Command::Screen(call));
-        }
         match (verb, numbers) {
             ("close", []) => Some(Command::Close),
             ("day", []) => Some(Command::NewDay),
-            _ => None,
+            _ => DayCall::of(verb, numbers)
+                .map(Command::Day)
+                .or_else(|| Account::of(verb, numbers).map(Command::Account))
+                .or_else(|| ScreenCall::of(verb, numbers).map(Command::Screen)),
         }
     }
 }
 
 impl DayCall {
     fn of(verb: &str, numbers: &[u32]) -> Option<DayCall> {
-        let call = match (verb, numbers) {
-            ("tariff", &[grid, fen]) => DayCall::Tariff { grid, fen },
-            ("offer", figures) => DayCall::Offer(raw_offer(figures)?),
-            ("withdraw", &[unit]) => DayCall::Withdraw { unit },
-            ("bid", &[grid, price, need]) => DayCall::Bid { grid, price, need },
-            ("clear", []) => DayCall::Clear,
-            ("reopen", []) => DayCall::Reopen,
-            ("post", []) => DayCall::Post,
-            ("award", &[place]) => DayCall::Award { place },
-            ("share", &[grid]) => DayCall::Share { grid },
-            ("segq", &[bid]) => DayCall::SegmentQuantity { bid },
-            ("segp", &[bid]) => DayCall::SegmentPrice { bid },
-            ("points", []) => DayCall::PointsPosted,
-            ("entries", []) => DayCall::EntryCount,
-            _ => return None,
-        };
-        Some(call)
+        match (verb, numbers) {
+            ("tariff", &[grid, fen]) => Some(DayCall::Tariff { grid, fen }),
+            ("offer", figures) => raw_offer(figures).map(DayCall::Offer),
+            ("withdraw", &[unit]) => Some(DayCall::Withdraw { unit }),
+            ("bid", &[grid, price, need]) => Some(DayCall::Bid { grid, price, need }),
+            ("clear", []) => Some(DayCall::Clear),
+            ("reopen", []) => Some(DayCall::Reopen),
+            ("post", []) => Some(DayCall::Post),
+            ("award", &[place]) => Some(DayCall::Award { place }),
+            ("share", &[grid]) => Some(DayCall::Share { grid }),
+            ("segq", &[bid]) => Some(DayCall::SegmentQuantity { bid }),
+            ("segp", &[bid]) => Some(DayCall::SegmentPrice { bid }),
+            ("points", []) => Some(DayCall::PointsPosted),
+            ("entries", []) => Some(DayCall::EntryCount),
+            _ => None,
+        }
     }
 }
 

@@ -2,15 +2,16 @@
 ghost use Rattle.std.specs.Prelude.{Some};
 ghost use Rattle.daycalls.specs.Texts.{reply_text};
 
-use market::refusals::{MarketRefusal, Refusal, ScreenRefusal};
+use book::Money;
+use market::refusals::{Refusal, ScreenRefusal};
 use std::fmt;
 
-#[derive(Clone, Copy)]
+#[derive(Clone, Copy, PartialEq, Eq, Debug)]
 pub enum Reply {
     Accepted,
     Declined(Refusal),
     Number(u32),
-    Money { fen: u64, fortieths: u64 },
+    Money(Money),
     Absent,
     // A call or a read of a running day, after close.
     DayClosed,
@@ -20,41 +21,39 @@ pub enum Reply {
     Unknown,
 }
 
-impl Reply {
-    pub fn of_call(answer: Result<(), MarketRefusal>) -> Reply {
+impl From<()> for Reply {
+    fn from(_: ()) -> Reply {
+        Reply::Accepted
+    }
+}
+
+impl From<Money> for Reply {
+    fn from(money: Money) -> Reply {
+        Reply::Money(money)
+    }
+}
+
+// What a call or an account answers, or its refusal.
+impl<T: Into<Reply>, E: Into<Refusal>> From<Result<T, E>> for Reply {
+    fn from(answer: Result<T, E>) -> Reply {
         match answer {
-            Ok(()) => Reply::Accepted,
-            Err(refusal) => Reply::Declined(refusal.refusal()),
+            Ok(told) => told.into(),
+            Err(refusal) => Reply::Declined(refusal.into()),
         }
     }
+}
 
-    pub fn of_read(answer: Option<u32>) -> Reply {
-        match answer {
-            Some(number) => Reply::Number(number),
-            None => Reply::Absent,
-        }
+// What a read answers.
+impl From<Option<u32>> for Reply {
+    fn from(answer: Option<u32>) -> Reply {
+        answer.map_or(Reply::Absent, Reply::Number)
     }
+}
 
-    pub fn of_account(answer: Result<(u64, u64), MarketRefusal>) -> Reply {
-        match answer {
-            Ok((fen, fortieths)) => Reply::Money { fen, fortieths },
-            Err(refusal) => Reply::Declined(refusal.refusal()),
-        }
-    }
-
-    pub fn of_take(answer: Result<(), ScreenRefusal>) -> Reply {
-        match answer {
-            Ok(()) => Reply::Accepted,
-            Err(refusal) => Reply::Declined(refusal.refusal()),
-        }
-    }
-
-    // A setter that the screen does not have is unknown.
-    pub fn of_setter(answer: Option<Result<(), ScreenRefusal>>) -> Reply {
-        match answer {
-            Some(answer) => Reply::of_take(answer),
-            None => Reply::Unknown,
-        }
+// A setter that the screen does not have is unknown.
+impl From<Option<Result<(), ScreenRefusal>>> for Reply {
+    fn from(answer: Option<Result<(), ScreenRefusal>>) -> Reply {
+        answer.map_or(Reply::Unknown, Reply::from)
     }
 }
 
@@ -72,7 +71,7 @@ impl fmt::Display for Reply {
                 },
             ) => write!(f, "E {number} {layer} {name}"),
             Reply::Number(number) => write!(f, "{number}"),
-            Reply::Money { fen, fortieths } => write!(f, "{fen} {fortieths}"),
+            Reply::Money(money) => write!(f, "{money}"),
             Reply::Absent => f.write_str("absent"),
             Reply::DayClosed => f.write_str("closed"),
             Reply::DayRuns => f.write_str("running"),

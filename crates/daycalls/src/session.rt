@@ -67,17 +67,17 @@ impl DayState {
 // Makes a call of a running day.
 fn call_day(day: &mut RunningDay, screen: &mut AnyScreen, call: DayCall) -> Reply {
     match call {
-        DayCall::Tariff { grid, fen } => Reply::of_call(day.tariff(grid, fen)),
-        DayCall::Offer(raw) => Reply::of_call(day.offer(&raw)),
-        DayCall::Withdraw { unit } => Reply::of_call(day.withdraw(unit)),
-        DayCall::Bid { grid, price, need } => Reply::of_call(day.bid(grid, price, need)),
-        DayCall::Clear => Reply::of_call(day.clear(screen)),
-        DayCall::Reopen => Reply::of_call(day.reopen()),
-        DayCall::Post => Reply::of_call(day.post()),
-        DayCall::Award { place } => Reply::of_read(day.award(place)),
-        DayCall::Share { grid } => Reply::of_read(day.share(grid)),
-        DayCall::SegmentQuantity { bid } => Reply::of_read(day.segment_quantity(bid)),
-        DayCall::SegmentPrice { bid } => Reply::of_read(day.segment_price(bid)),
+        DayCall::Tariff { grid, fen } => day.tariff(grid, fen).into(),
+        DayCall::Offer(raw) => day.offer(&raw).into(),
+        DayCall::Withdraw { unit } => day.withdraw(unit).into(),
+        DayCall::Bid { grid, price, need } => day.bid(grid, price, need).into(),
+        DayCall::Clear => day.clear(screen).into(),
+        DayCall::Reopen => day.reopen().into(),
+        DayCall::Post => day.post().into(),
+        DayCall::Award { place } => day.award(place).into(),
+        DayCall::Share { grid } => day.share(grid).into(),
+        DayCall::SegmentQuantity { bid } => day.segment_quantity(bid).into(),
+        DayCall::SegmentPrice { bid } => day.segment_price(bid).into(),
         DayCall::PointsPosted => Reply::Number(u32::from(day.points_posted())),
         DayCall::EntryCount => Reply::Number(day.entry_count()),
     }
@@ -85,29 +85,28 @@ fn call_day(day: &mut RunningDay, screen: &mut AnyScreen, call: DayCall) -> Repl
 
 // Reads an account of a closed day.
 fn read_account(day: &ClosedDay, account: Account) -> Reply {
-    let answer = match account {
-        Account::Charge { grid } => day.charge(grid),
-        Account::Receipt { unit } => day.unit(unit),
-        Account::Wires { grid } => day.wires(grid),
-        Account::Branch => Ok(day.branch()),
-    };
-    Reply::of_account(answer)
+    match account {
+        Account::Charge { grid } => day.charge(grid).into(),
+        Account::Receipt { unit } => day.unit(unit).into(),
+        Account::Wires { grid } => day.wires(grid).into(),
+        Account::Branch => day.branch().into(),
+    }
 }
 
 // Makes a call of a screen.
 fn call_screen(screen: &mut AnyScreen, call: ScreenCall) -> Reply {
     match call {
-        ScreenCall::Limit { node, limit } => Reply::of_setter(screen.set_limit(node, limit)),
-        ScreenCall::Hang { unit, node } => Reply::of_setter(screen.hang(unit, node)),
-        ScreenCall::Parent { node, parent } => Reply::of_setter(screen.set_parent(node, parent)),
-        ScreenCall::Cap { place, quantity } => Reply::of_setter(screen.set_cap(place, quantity)),
-        ScreenCall::Ceiling { limit } => Reply::of_setter(screen.set_ceiling(limit)),
+        ScreenCall::Limit { node, limit } => screen.set_limit(node, limit).into(),
+        ScreenCall::Hang { unit, node } => screen.hang(unit, node).into(),
+        ScreenCall::Parent { node, parent } => screen.set_parent(node, parent).into(),
+        ScreenCall::Cap { place, quantity } => screen.set_cap(place, quantity).into(),
+        ScreenCall::Ceiling { limit } => screen.set_ceiling(limit).into(),
         ScreenCall::Reset => {
             screen.reset();
             Reply::Accepted
         }
         ScreenCall::Room { place } => Reply::Number(screen.room(place)),
-        ScreenCall::Take { place, quantity } => Reply::of_take(screen.take(place, quantity)),
+        ScreenCall::Take { place, quantity } => screen.take(place, quantity).into(),
     }
 }
 

@@ -3,10 +3,8 @@ use std::alloc::{AllocError, Global};
 
 // The text of a line without a carriage return at its end and without spaces at either end; None where it is not UTF-8.
 pub fn text_of(line: &[u8]) -> Option<&str> {
-    match std::str::from_utf8(line) {
-        Ok(text) => Some(text.strip_suffix('\r').unwrap_or(text).trim_matches(' ')),
-        Err(_) => None,
-    }
+    let text = std::str::from_utf8(line).ok()?;
+    Some(text.strip_suffix('\r').unwrap_or(text).trim_matches(' '))
 }
 
 // An empty line and a comment are skipped.
@@ -16,33 +14,20 @@ pub fn is_skipped(text: &str) -> bool {
 
 // The words of a text, separated by one or more spaces.
 pub fn split<'a>(heap: Global, text: &'a str) -> Result<Vec<&'a str>, AllocError> {
-    let mut words = Vec::new(heap);
-    for word in text.split(' ') {
-        if !word.is_empty() {
-            words.push(word)?;
-        }
-    }
-    Ok(words)
+    text.split(' ')
+        .filter(|word| !word.is_empty())
+        .collect(heap)
 }
 
 // The number that a word of digits says; None for any other word and above 4,294,967,295.
 fn number(word: &str) -> Option<u32> {
-    for byte in word.as_bytes() {
-        if !byte.is_ascii_digit() {
-            return None;
-        }
+    if !word.bytes().all(|byte| byte.is_ascii_digit()) {
+        return None;
     }
-    word.parse::<u32>().ok()
+    word.parse().ok()
 }
 
 // The numbers that words say; None if one of them is no number.
 pub fn numbers(heap: Global, words: &[&str]) -> Result<Option<Vec<u32>>, AllocError> {
-    let mut numbers = Vec::new(heap);
-    for word in words {
-        let Some(said) = number(word) else {
-            return Ok(None);
-        };
-        numbers.push(said)?;
-    }
-    Ok(Some(numbers))
+    words.iter().map(|word| number(word)).collect(heap)
 }

@@ -1,148 +1,123 @@
 // The quarter hour cleared, without a screen and under one: for each segment who was in it, what was wanted, what was taken.
-use super::offers::charges;
-use anyhow::anyhow;
-use clearing::points::{Cleared, clear};
+use anyhow::bail;
+use clearing::points::{Segment, clear};
 use grids::GridScreen;
 use layers::caps::CapLayer;
-use market::entries::UnitOffer;
-use market::figures::BidPrice;
+use layers::setters::PlaceCaps;
+use market::refusals::ScreenRefusal;
 use market::tiers::{Bid, Tier};
 use outcome::PointEntries;
+use quarterhour::{BIDS, RawBid};
 use screen::{NodeLimits, OpenScreen, Screen};
 
-// Enters a bid if it is acceptable.
-fn enter(bids: &mut [Option<Bid>; 16], grid: u32, price: u32, need: u32) {
-    if let Ok(bid) = Bid::checked(grid, price, need) {
-        bids[usize::from(bid.grid.number)] = Some(bid);
-    }
-}
-
-// The bids of the quarter hour.
+// The acceptable bids of the quarter hour, by grid.
 fn buyers() -> [Option<Bid>; 16] {
     let mut bids = [None; 16];
-    enter(&mut bids, 2, 41_000, 300);
-    enter(&mut bids, 3, 43_000, 850);
-    enter(&mut bids, 5, 50_000, 20);
+    for RawBid { grid, price, need } in BIDS {
+        if let Ok(bid) = Bid::checked(grid, price, need) {
+            bids[usize::from(bid.grid.number)] = Some(bid);
+        }
+    }
     bids
 }
 
 // The tiers of the quarter hour, by place.
-fn sellers(offers: &Vec<UnitOffer>) -> [Option<Tier>; 256] {
-    let mut tiers = [None; 256];
-    for offer in offers {
-        for band in 0..4 {
-            if let Some(tier) = offer.tier(band, charges(offer.grid.number)) {
-                tiers[usize::from(tier.place.number)] = Some(tier);
-            }
-        }
+fn sellers(tiers: &[Tier]) -> [Option<Tier>; 256] {
+    let mut places = [None; 256];
+    for tier in tiers {
+        places[usize::from(tier.place.number)] = Some(*tier);
     }
-    tiers
+    places
 }
 
-// The price of the bid before the segment `k`, if there is one: the segment's tiers land above it.
-fn bid_before(cleared: &Cleared, k: usize) -> Option<u32> {
-    if k == 0 || k > 16 {
-        return None;
-    }
-    Some(cleared.segments[k - 1].bid)
+// A segment of a cleared point, and the segments before it.
+#[derive(Clone, Copy)]
+struct Worked<'a> {
+    entries: &'a PointEntries,
+    awards: &'a [u32; 256],
+    before: &'a [Segment],
+    segment: &'a Segment,
 }
 
-// What a grid got in the segments before `k`.
-fn got_before(cleared: &Cleared, k: usize, grid: usize) -> u64 {
-    let mut got: u64 = 0;
-    for segment in cleared.segments.iter().take(k) {
-        if grid < 16 {
-            got = got.saturating_add(u64::from(segment.shares[grid]));
-        }
+impl Worked<'_> {
+    // Whether the bid's grid buys in the segment.
+    fn buys(&self, bid: &Bid) -> bool {
+        bid.price.fen >= self.segment.bid
     }
-    got
-}
 
-// What a bid's grid still needed when the segment `k` began.
-fn needed(bid: &Bid, cleared: &Cleared, k: usize, grid: usize) -> u64 {
-    u64::from(bid.need).saturating_sub(got_before(cleared, k, grid))
-}
-
-// What the buyers of a segment wanted together.
-fn wanted(bids: &[Option<Bid>; 16], cleared: &Cleared, k: usize, lowest: u32) -> u64 {
-    let mut want: u64 = 0;
-    for (grid, slot) in bids.iter().enumerate() {
-        if let Some(bid) = slot {
-            if bid.price.fen >= lowest {
-                want = want.saturating_add(needed(bid, cleared, k, grid));
-            }
-        }
+    // Whether the tier comes in with the segment: it lands within its bid, and above the bid before.
+    fn sells(&self, tier: &Tier) -> bool {
+        let landed = tier.landed.fen();
+        let above = match self.before.last() {
+            Some(lower) => landed > lower.bid,
+            None => true,
+        };
+        above && landed <= self.segment.bid
     }
-    want
-}
 
-// The buyers of a segment: what each still needed and what it got.
-fn show_buyers(
-    rt: &HostRuntime,
-    bids: &[Option<Bid>; 16],
-    cleared: &Cleared,
-    k: usize,
-) -> anyhow::Result<()> {
-    if k > 15 {
-        return Ok(());
+    // What a bid's grid still needed when the segment began.
+    fn needed(&self, bid: &Bid) -> u64 {
+        let grid = usize::from(bid.grid.number);
+        let got = self
+            .before
+            .iter()
+            .map(|segment| u64::from(segment.shares[grid]))
+            .fold(0, u64::saturating_add);
+        u64::from(bid.need).saturating_sub(got)
     }
-    let segment = cleared.segments[k];
-    for (grid, slot) in bids.iter().enumerate() {
-        if let Some(bid) = slot {
-            if bid.price.fen >= segment.bid && grid < 16 {
-                let price = bid.price.fen;
-                let open_need = needed(bid, cleared, k, grid);
-                let share = segment.shares[grid];
+
+    // What the buyers wanted together.
+    fn wanted(&self) -> u64 {
+        self.entries
+            .bids
+            .iter()
+            .flatten()
+            .filter(|bid| self.buys(bid))
+            .map(|bid| self.needed(bid))
+            .fold(0, u64::saturating_add)
+    }
+
+    // What each buyer still needed and what it got.
+    fn show_buyers(&self, rt: &HostRuntime) -> anyhow::Result<()> {
+        for bid in self.entries.bids.iter().flatten() {
+            if self.buys(bid) {
+                let grid = bid.grid.number;
                 println!(rt;
-                    "    grid {grid}, bidding {price}, needed {open_need} and got {share}"
+                    "    grid {grid}, bidding {}, needed {} and got {}",
+                    bid.price.fen,
+                    self.needed(bid),
+                    self.segment.shares[usize::from(grid)]
                 )?;
             }
         }
+        Ok(())
     }
-    Ok(())
-}
 
-// The tiers of a segment: what each took.
-fn show_takes(
-    rt: &HostRuntime,
-    tiers: &[Option<Tier>; 256],
-    cleared: &Cleared,
-    k: usize,
-) -> anyhow::Result<()> {
-    if k > 15 {
-        return Ok(());
-    }
-    let bid = cleared.segments[k].bid;
-    let before = bid_before(cleared, k);
-    for (place, slot) in tiers.iter().enumerate() {
-        if let Some(tier) = slot {
-            let landed = tier.landed.fen();
-            let within = tier.landed.within(BidPrice {
-                fen: bid.min(200_000),
-            });
-            let above = match before {
-                Some(lower) => landed > lower,
-                None => true,
-            };
-            if within && above && place < 256 {
-                let capacity = tier.capacity;
-                let award = cleared.awards[place];
-                println!(rt; "    place {place}, landed {landed}, took {award} of {capacity}")?;
+    // What each tier took that came in with the segment.
+    fn show_takes(&self, rt: &HostRuntime) -> anyhow::Result<()> {
+        for tier in self.entries.tiers.iter().flatten() {
+            if self.sells(tier) {
+                let place = tier.place.number;
+                println!(rt;
+                    "    place {place}, landed {}, took {} of {}",
+                    tier.landed.fen(),
+                    self.awards[usize::from(place)],
+                    tier.capacity
+                )?;
             }
         }
+        Ok(())
     }
-    Ok(())
-}
 
-// Clears over a screen and tells of each segment.
-fn show<S: Screen>(rt: &HostRuntime, entries: &PointEntries, screen: &mut S) -> anyhow::Result<()> {
-    let cleared = clear(entries, screen);
-    for (k, segment) in cleared.segments.iter().enumerate().take(cleared.count) {
-        let bid = segment.bid;
-        let quantity = segment.quantity;
-        let price = segment.price;
-        let want = wanted(&entries.bids, &cleared, k, bid);
-        print!(rt; "  segment up to {bid}: wanted {want}, ")?;
+    // The segment's quantity and price, its tiers and its buyers.
+    fn show(&self, rt: &HostRuntime) -> anyhow::Result<()> {
+        let Segment {
+            bid,
+            quantity,
+            price,
+            ..
+        } = *self.segment;
+        print!(rt; "  segment up to {bid}: wanted {}, ", self.wanted())?;
         if quantity == 0 {
             println!(rt; "sold nothing, so its price is 0")?;
         } else {
@@ -150,32 +125,42 @@ fn show<S: Screen>(rt: &HostRuntime, entries: &PointEntries, screen: &mut S) -> 
                 "sold {quantity} at {price}, the landed offer of the last group that took anything"
             )?;
         }
-        show_takes(rt, &entries.tiers, &cleared, k)?;
-        show_buyers(rt, &entries.bids, &cleared, k)?;
+        self.show_takes(rt)?;
+        self.show_buyers(rt)
+    }
+}
+
+// Clears over a screen and tells of each segment.
+fn show<S: Screen>(rt: &HostRuntime, entries: &PointEntries, screen: &mut S) -> anyhow::Result<()> {
+    let cleared = clear(entries, screen);
+    let segments = cleared.segments();
+    for (k, segment) in segments.iter().enumerate() {
+        let worked = Worked {
+            entries,
+            awards: &cleared.awards,
+            before: &segments[..k],
+            segment,
+        };
+        worked.show(rt)?;
     }
     Ok(())
 }
 
 // A cap of 10 at place 30, over a limit of 1,000 on grid 1, on which units 0 and 3 hang.
-fn limited() -> Option<CapLayer<GridScreen>> {
+fn limited() -> Result<CapLayer<GridScreen>, ScreenRefusal> {
     let mut grids = GridScreen::new();
-    if grids.set_limit(1, 1_000).is_err()
-        || grids.hang(0, 1).is_err()
-        || grids.hang(3, 1).is_err()
-    {
-        return None;
-    }
+    grids.set_limit(1, 1_000)?;
+    grids.hang(0, 1)?;
+    grids.hang(3, 1)?;
     let mut screen = CapLayer::over(grids);
-    if screen.set_cap(30, 10).is_err() {
-        return None;
-    }
-    Some(screen)
+    screen.set_cap(30, 10)?;
+    Ok(screen)
 }
 
 // Clears the quarter hour twice.
-pub fn clear_twice(rt: &HostRuntime, offers: &Vec<UnitOffer>) -> anyhow::Result<()> {
+pub fn clear_twice(rt: &HostRuntime, tiers: &[Tier]) -> anyhow::Result<()> {
     let entries = PointEntries {
-        tiers: sellers(offers),
+        tiers: sellers(tiers),
         bids: buyers(),
     };
     println!(rt; "")?;
@@ -183,8 +168,8 @@ pub fn clear_twice(rt: &HostRuntime, offers: &Vec<UnitOffer>) -> anyhow::Result<
     show(rt, &entries, &mut OpenScreen)?;
     println!(rt; "")?;
     println!(rt; "Cleared with grid 1 limited to 1000 and a cap of 10 at place 30:")?;
-    match limited() {
-        Some(mut screen) => show(rt, &entries, &mut screen),
-        None => Err(anyhow!("a setting was declined")),
-    }
+    let Ok(mut screen) = limited() else {
+        bail!("a setting was declined");
+    };
+    show(rt, &entries, &mut screen)
 }

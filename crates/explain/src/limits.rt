@@ -1,8 +1,9 @@
 // A screen at work: a tree of corridors, and a cap layer over it.
-use anyhow::anyhow;
+use anyhow::bail;
 use corridors::CorridorScreen;
 use layers::caps::CapLayer;
-use market::refusals::ScreenRefusal;
+use layers::setters::PlaceCaps;
+use market::refusals::{Refusal, ScreenRefusal};
 use screen::{NodeLimits, NodeParents, Screen};
 
 // Corridor 0 with limit 100, corridor 1 below it with limit 70; unit 0 hangs on corridor 1, unit 1 on corridor 0.
@@ -23,16 +24,16 @@ fn show_take<S: Screen>(
     place: u32,
     quantity: u32,
 ) -> anyhow::Result<()> {
+    print!(rt; "  take {quantity} at place {place}: ")?;
     match screen.take(place, quantity) {
-        Ok(()) => print!(rt; "  take {quantity} at place {place}: taken;")?,
-        Err(refusal) => {
-            let number = refusal.refusal().number;
-            print!(rt; "  take {quantity} at place {place}: refusal {number};")?;
-        }
+        Ok(()) => print!(rt; "taken;")?,
+        Err(refusal) => print!(rt; "refusal {};", Refusal::from(refusal).number)?,
     }
-    let first = screen.room(0);
-    let second = screen.room(4);
-    println!(rt; " room {first} at place 0, {second} at place 4")?;
+    println!(rt;
+        " room {} at place 0, {} at place 4",
+        screen.room(0),
+        screen.room(4)
+    )?;
     Ok(())
 }
 
@@ -42,8 +43,7 @@ fn show_takes<S: Screen>(rt: &HostRuntime, screen: &mut S) -> anyhow::Result<()>
     show_take(rt, screen, 4, 41)?;
     show_take(rt, screen, 4, 30)?;
     screen.reset();
-    let first = screen.room(0);
-    println!(rt; "  reset: room {first} at place 0")?;
+    println!(rt; "  reset: room {} at place 0", screen.room(0))?;
     Ok(())
 }
 
@@ -54,13 +54,13 @@ pub fn show(rt: &HostRuntime) -> anyhow::Result<()> {
         "A screen: corridor 0 limited to 100, corridor 1 below it to 70; unit 0 on 1, unit 1 on 0:"
     )?;
     let Ok(mut corridors) = two_corridors() else {
-        return Err(anyhow!("a limit was declined"));
+        bail!("a limit was declined");
     };
     show_takes(rt, &mut corridors)?;
     println!(rt; "The same under a cap of 10 at place 0:")?;
     let mut capped = CapLayer::over(corridors);
     if capped.set_cap(0, 10).is_err() {
-        return Err(anyhow!("the cap was declined"));
+        bail!("the cap was declined");
     }
     show_takes(rt, &mut capped)
 }
