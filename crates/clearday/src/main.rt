@@ -14,7 +14,8 @@ use std::io::{Read, Write};
 // The bytes that any stated length of a sheet fits into.
 const WINDOW_ROOM: usize = 65_535;
 
-// An input, and the bytes that were read of it and not yet worked. They lie in a table of fixed length, so that reading needs no memory.
+// An input, and the bytes that were read of it and not yet worked. They lie in a table of fixed length, so that reading needs no memory:
+// `read` fills a slice, which a vector of `arrayvec` does not lend of its free room.
 #[derive(Drop)]
 struct Window<R: Read> {
     input: R,
@@ -42,6 +43,7 @@ impl<R: Read> Window<R> {
 
     // Reads on until the window holds the bytes wanted or is full, or the input ends.
     fn fill(&mut self, want: usize) -> io::Result<()> {
+        // Each turn reads a byte at least, so these turns are enough.
         for _ in 0..WINDOW_ROOM {
             if self.count >= want || self.count >= WINDOW_ROOM {
                 break;
@@ -61,8 +63,7 @@ impl<R: Read> Window<R> {
         if posted >= POINTS {
             return self.fill(1);
         }
-        let header = wanted(self.held());
-        self.fill(header)?;
+        self.fill(wanted(&[]))?;
         let stated = wanted(self.held());
         self.fill(stated)
     }
@@ -76,7 +77,8 @@ impl<R: Read> Window<R> {
     }
 }
 
-// Prints what a step wrote, and answers whether the day goes on. The bytes that the step read then leave the window.
+// Prints what a step wrote, and answers whether the day goes on, which is all that there is to say. The bytes that the step read then leave
+// the window.
 fn print_step<R: Read, W: Write>(
     window: &mut Window<R>,
     output: &mut W,

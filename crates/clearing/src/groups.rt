@@ -1,4 +1,5 @@
 // One group of tied tiers, worked in two rounds.
+// Each step asks that its want fits beside what is taken: that speaks of a parameter, so no type can hold it.
 ghost use Rattle.std.specs.Prelude.{◌≡◌, ◌+◌, ◌^◌, ◌<◌, ◌≤◌, length, sum};
 ghost use Rattle.market.specs.Maxima.{place_count};
 ghost use Rattle.outcome.specs.Groups.{total, targets, first_round, second_round, work_tiers};

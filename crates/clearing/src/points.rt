@@ -14,6 +14,7 @@ pub struct Segment {
 }
 
 // What a clearing declares: the award of each place, all that each grid got, and the table of segments, of which the first `count` are filled.
+// The rows behind are blank and the whole can be copied, so that a cleared point has one defined value to the last row.
 #[derive(Clone, Copy)]
 pub struct Cleared {
     pub awards: [u32; 256],

@@ -10,7 +10,8 @@ use market::ranking::put_in_rank;
 use market::tiers::Tier;
 use outcome::PointEntries;
 
-// The tiers with a capacity, in rank. They stand in the front of a table of fixed length, since no call of a clearing may need memory.
+// The tiers with a capacity, in rank. They stand in the front of a table of fixed length, since no call of a clearing may
+// need memory; `arrayvec` would make its table of defaults, and a tier has none.
 #[derive(Drop)]
 pub(crate) struct RankedTiers {
     table: [Tier; 256],

@@ -58,10 +58,11 @@ impl<const N: usize> Accounts<N> {
         ensures answer { market_answer result ≡ topmost (account_rows N number) }
         ensures money { IfOk result (λ m. WholeFen (account_at self.now number) m) }
     {
-        match self.rows.get(number as usize) {
-            Some(account) => Ok(account.money()),
-            None => Err(MarketRefusal::OutOfRange { name: number }),
-        }
+        let account = self
+            .rows
+            .get(number as usize)
+            .ok_or(MarketRefusal::OutOfRange { name: number })?;
+        Ok(account.money())
     }
 }
 

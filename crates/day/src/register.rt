@@ -25,16 +25,6 @@ pub struct Register {
     bids: [Option<Bid>; 16],
 }
 
-// Whether what stands in a unit's slot is an offer on this grid.
-fn is_on(slot: &Option<UnitOffer>, grid: Grid) -> bool
-    ensures { result ≡ offered_on (offered slot.now) grid.number }
-{
-    match slot {
-        Some(offer) => offer.grid == grid,
-        None => false,
-    }
-}
-
 impl Register {
     // Nothing entered, and all tariffs 0.
     pub(crate) fn empty() -> Register
@@ -147,6 +137,7 @@ impl Register {
         ensures { SameEntries (entries_of result) (entries_in (point_of self.now)) }
     {
         let mut tiers: [Option<Tier>; 256] = [None; 256];
+        // A loop: for `array::from_fn` the closure would have to state what `tier_at` says of each place.
         for (place, slot) in tiers.iter_mut().enumerate() {
             *slot = self.tier_at(place as u8);
         }

@@ -90,6 +90,7 @@ impl Seller<'_> {
         ensures { result ≡ received_by self.now }
     {
         let between = self.charges.deducted();
+        // A loop: in a chain that the price covers what lies between is not carried through the zip to its closure.
         let mut all = 0;
         for (&award, offer) in self.awards.iter().zip(self.offers) {
             let landed = offer.land(self.charges).fen();

@@ -8,7 +8,7 @@ ghost use Rattle.day.specs.Shown.{stage_of, wants_entry};
 use clearing::points::Cleared;
 use market::refusals::MarketRefusal;
 
-// A point is being entered, or cleared with what was declared.
+// A point is being entered, or cleared with what was declared: two states by name, each with calls that it alone takes, and no `Option`.
 #[derive(Clone, Copy)]
 pub enum PointState {
     Entering,
@@ -28,6 +28,7 @@ pub enum CallKind {
 }
 
 impl PointState {
+    // One match on state and call. It decides and runs nothing, so there is no step to hand in.
     // Whether the point takes the call: entries and clear while it is being entered, else 2; reopen and post once it is cleared, else 3.
     pub(crate) fn admit(&self, call: CallKind, name: u32) -> Result<(), MarketRefusal>
         ensures { market_answer result ≡ topmost (point_rows (is_cleared (stage_of self.now)) (wants_entry call) name) }

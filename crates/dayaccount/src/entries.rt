@@ -28,6 +28,7 @@ fn enter(calls: &mut Vec<DayCall<AnyScreen>>) -> anyhow::Result<()> {
     Ok(())
 }
 
+// As `explain` has it, but as a screen of any kind.
 // A cap of 10 at place 30, over a limit of 1,000 on grid 1, on which units 0 and 3 hang.
 fn limited() -> Option<AnyScreen> {
     let mut screen = AnyScreen::Grid(Layered::capped(GridScreen::new()));

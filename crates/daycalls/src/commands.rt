@@ -4,7 +4,7 @@ use super::words::numbers;
 use market::entries::RawOffer;
 use std::alloc::{AllocError, Global};
 
-// A call or a read of a running day.
+// A call or a read of a running day. Not the calls of `runs`: there are reads among these, and a clear goes through the session's screen.
 #[derive(Clone, Copy)]
 pub enum DayCall {
     Tariff { grid: u32, fen: u32 },

@@ -21,9 +21,7 @@ impl Line {
             return Ok(Line::Skipped);
         }
         let words = words::split(heap, text)?;
-        match Command::read(heap, words.as_slice())? {
-            Some(command) => Ok(Line::Asks(command)),
-            None => Ok(Line::Unknown),
-        }
+        let command = Command::read(heap, words.as_slice())?;
+        Ok(command.map_or(Line::Unknown, Line::Asks))
     }
 }

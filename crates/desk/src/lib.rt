@@ -112,6 +112,7 @@ impl Desk {
         ensures few { result ≤ listing_room }
         ensures bytes { out.new ≡ written out.old 0 (point_listing (cleared_desk (desk_of self.old)).0) }
     {
+        // The point is being entered, so the day takes both calls, and the listing has room: no answer is an error.
         let _ = self.day.clear(&mut self.screen);
         let end = write_listing(out, &self.day);
         let _ = self.day.post();

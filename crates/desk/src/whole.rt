@@ -9,6 +9,8 @@ use super::{Desk, Room, STEP_ROOM, Step};
 use market::maxima::POINTS;
 use std::alloc::{AllocError, Global};
 
+// Desk, buffer and text stay three parameters: each is said of apart, and the desk is given up in the end.
+
 // Works one sheet, and adds what it prints to the text.
 fn add_sheet(
     desk: &mut Desk,
@@ -35,6 +37,7 @@ fn add_sheets(
     ensures { OnOk result (text.new.items ++ closing_text (desk_of desk.new) ≡ text.old.items ++ sheets_text (suc point_count) (desk_of desk.old) sheets.now) }
 {
     let mut rest = sheets;
+    // A sheet for each point, and one that is declined.
     for turn in 0..=POINTS {
         if rest.is_empty() {
             return Ok(());

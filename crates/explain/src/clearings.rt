@@ -48,10 +48,7 @@ impl Worked<'_> {
     // Whether the tier comes in with the segment: it lands within its bid, and above the bid before.
     fn sells(&self, tier: &Tier) -> bool {
         let landed = tier.landed.fen();
-        let above = match self.before.last() {
-            Some(lower) => landed > lower.bid,
-            None => true,
-        };
+        let above = self.before.last().map_or(true, |lower| landed > lower.bid);
         above && landed <= self.segment.bid
     }
 

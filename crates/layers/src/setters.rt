@@ -1,5 +1,5 @@
 // Setting a layer, also through those that stand above it.
-// What is set in a layer forgets what was taken, above and below it too.
+// What is set in a layer forgets what was taken, above and below it too; that holds until the next take, so the clauses tell it and no type can.
 ghost use Rattle.std.specs.Prelude.{◌≡◌, ℕ, true, false, is_ok};
 ghost use Rattle.market.specs.Rows.{topmost};
 ghost use Rattle.screen.specs.Meaning.{with_setting, cap_rows, ceiling_rows, answer_of};

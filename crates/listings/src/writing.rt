@@ -1,4 +1,4 @@
-// Writers of one line each. They add it to the page where there is room.
+// Writers of one line each. They add it to the page where there is room, which each asks for the length of its own line.
 ghost use Rattle.std.specs.Prelude.{◌≡◌, ◌+◌, ◌*◌, ◌<◌, ◌≤◌, ◌++◌, length};
 ghost use Rattle.arrayvec.specs.ArrayVec.{array_vec_len};
 ghost use Rattle.lines.specs.Lines.{line_of};
@@ -9,7 +9,7 @@ use super::{Page, letters};
 use book::Money;
 use lines::write_line;
 
-// Adds a line that fits.
+// Adds a line that fits, which is never declined.
 fn put_line(page: &mut Page, letter: u8, fields: &[u64])
     requires { array_vec_len page.old + length (line_of letter fields.now) ≤ listing_room }
     ensures { page.new.items ≡ page.old.items ++ line_of letter fields.now }

@@ -79,7 +79,7 @@ impl From<LoadFault> for Refusal {
 }
 
 impl LoadFault {
-    // The position of the record at fault, 0 where there is none.
+    // The position of the record at fault, 0 where there is none, as a line of text has it.
     pub fn position(self) -> u32
         ensures { result ≡ position_in self }
     {

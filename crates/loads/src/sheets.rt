@@ -38,6 +38,7 @@ fn open_limits<S: Screen + NodeLimits>(screen: &mut S)
     ensures opened { 0 < S.nodes screen.old → S.ontop screen.new ≡ S.fresh screen.new }
 {
     for node in 0..GRIDS {
+        // Declined where the screen has fewer nodes.
         let _ = screen.set_limit(node, MAX_LIMIT);
     }
 }
@@ -59,6 +60,7 @@ fn load_records<'a, R: Entry, S: Screen + NodeLimits>(
     ensures opened { S.ontop screen.old ≡ S.fresh screen.old → S.ontop screen.new ≡ S.fresh screen.new }
 {
     let mut rest = bytes;
+    // There are bytes for each record, so none is ever too short.
     for position in first..first + count {
         let (record, behind) = R::take(rest).ok_or(SheetRefusal::TooShort)?;
         record

@@ -1,7 +1,7 @@
 // Checks of what is handed over, by its own figures, and the tiers of an accepted offer.
-ghost use Rattle.std.specs.Prelude.{◌≡◌, ◌<◌, ◌≤◌, Bool, true, false, not, ◌||◌, IfOk, MatchOption, length, ◌==◌};
+ghost use Rattle.std.specs.Prelude.{◌≡◌, ◌<◌, ◌≤◌, Bool, true, false, not, ◌||◌, IfOk, MatchOption, MatchResult, ℕ, length, ◌==◌};
 ghost use Rattle.std.specs.List.{list_all};
-ghost use Rattle.market.specs.Maxima.{max_figure, max_offer};
+ghost use Rattle.market.specs.Maxima.{place_count, max_figure, max_offer};
 ghost use Rattle.market.specs.Rows.{topmost};
 ghost use Rattle.market.specs.Bands.{scheme_of, figures_of};
 ghost use Rattle.market.specs.Entries.{any_above, figures_in, listed, exceeds_nameplate, keeps_bands, offer_rows, handed_over, bid_rows, tariff_rows, market_answer, capacity_in, TierOf};
@@ -122,7 +122,8 @@ impl UnitOffer {
 impl UnitOffer {
     // The tier in a band: the place with its capacity at its landed offer; none where the capacity is 0.
     pub fn tier(&self, band: usize, charges: Charges) -> Option<Tier>
-        ensures { MatchOption result (capacity_in self.now band ≡ 0) (λ t. TierOf self.now charges band t) }
+        ensures tier { MatchOption result (capacity_in self.now band ≡ 0) (λ t. TierOf self.now charges band t) }
+        ensures places { (n : ℕ) (r : _) → ⟦<Place as TryFrom<u32>>⟧.try_from_gives n r → MatchResult r (λ p. (p.number ≡ n) × (n < place_count)) (λ e. place_count ≤ n) }
     {
         let capacity = self.class.capacity(&self.figures, band);
         if capacity == 0 || band > 3 {

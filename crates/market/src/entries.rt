@@ -3,7 +3,7 @@ use super::classes::Class;
 use super::figures::{Grid, Offer, Unit, UnitFigures};
 
 // A unit's offer as it is handed over, unchecked: five figures in tenths, and an offer in yuan for each of its four places.
-#[derive(Clone, Copy)]
+#[derive(Clone, Copy, PartialEq, Eq, Debug)]
 pub struct RawOffer {
     pub unit: u32,
     pub grid: u32,
@@ -17,7 +17,7 @@ pub struct RawOffer {
 }
 
 // A unit's offer, checked.
-#[derive(Clone, Copy)]
+#[derive(Clone, Copy, PartialEq, Eq, Debug)]
 pub struct UnitOffer {
     pub unit: Unit,
     pub grid: Grid,

@@ -6,7 +6,7 @@ ghost use Rattle.market.specs.Landing.{deducted, landed};
 use super::figures::{BidPrice, Charges, Offer};
 
 // An offer as it lands with a buyer, in fen per MWh. Only landing makes one, and only it is held against a bid.
-#[derive(Clone, Copy)]
+#[derive(Clone, Copy, PartialEq, Eq, PartialOrd, Ord, Debug)]
 pub struct LandedOffer {
     fen: u32,
     ghost ok: { fen ≤ max_price },

@@ -13,18 +13,6 @@ pub struct Sharing {
     ghost served: { running ≤ claims },
 }
 
-// What all claims up to this running sum get together.
-fn part_at(quantity: u32, claims: u32, running: u32) -> u32
-    requires { (quantity ≤ claims) × (running ≤ claims) }
-    ensures { result ≡ part quantity claims running }
-{
-    if claims == 0 {
-        return 0;
-    }
-    let product = u64::from(quantity) * u64::from(running);
-    (product / u64::from(claims)) as u32
-}
-
 impl Sharing {
     // Begins to share a quantity over claims with this sum; none where the quantity is above the sum.
     pub fn start(quantity: u32, claims: u32) -> Option<Sharing>
@@ -41,6 +29,17 @@ impl Sharing {
         }
     }
 
+    // What all claims served so far get together.
+    fn part(&self) -> u32
+        ensures { result ≡ part self.now.quantity self.now.claims self.now.running }
+    {
+        if self.claims == 0 {
+            return 0;
+        }
+        let product = u64::from(self.quantity) * u64::from(self.running);
+        (product / u64::from(self.claims)) as u32
+    }
+
     // The share of a claim that is within what is left of the sum of claims.
     fn serve(&mut self, claim: u32) -> u32
         requires { self.old.running + claim ≤ self.old.claims }
@@ -48,9 +47,9 @@ impl Sharing {
         ensures bound { result ≤ claim }
         ensures after { (self.new.quantity ≡ self.old.quantity) × (self.new.claims ≡ self.old.claims) × (self.new.running ≡ self.old.running + claim) }
     {
-        let before = part_at(self.quantity, self.claims, self.running);
+        let before = self.part();
         self.running += claim;
-        part_at(self.quantity, self.claims, self.running) - before
+        self.part() - before
     }
 
     // The share of the next claim. None, and nothing is altered, where the claim would lift the running sum above the sum of claims.
@@ -91,6 +90,7 @@ pub fn share_out(quantity: u32, claims: &[u32], shares: &mut [u32]) -> Result<()
     }
     let all = sum_of(claims).ok_or(CannotShare)?;
     let mut sharing = Sharing::start(quantity, all).ok_or(CannotShare)?;
+    // By place: zipped with `iter_mut`, its invariant would have to speak of items that are lent.
     for (i, claim) in claims.iter().enumerate() {
         shares[i] = sharing.serve(*claim);
     }

@@ -7,7 +7,7 @@ use super::figures::{BidPrice, Grid, Place};
 use super::landing::LandedOffer;
 
 // A tier: a place with its capacity in tenths, at its landed offer.
-#[derive(Clone, Copy)]
+#[derive(Clone, Copy, PartialEq, Eq, Debug)]
 pub struct Tier {
     pub landed: LandedOffer,
     pub class: Class,
@@ -17,7 +17,7 @@ pub struct Tier {
 }
 
 // A grid's bid: its price and its need in tenths.
-#[derive(Clone, Copy)]
+#[derive(Clone, Copy, PartialEq, Eq, Debug)]
 pub struct Bid {
     pub price: BidPrice,
     pub grid: Grid,

@@ -3,7 +3,7 @@
 // The offers and bids of one quarter hour, of which `explain` and `dayaccount` tell.
 use market::entries::RawOffer;
 
-// A bid as it is handed over, unchecked.
+// A bid as it is handed over, unchecked. Not the record of a sheet, since the programs that tell of it read none.
 #[derive(Clone, Copy, PartialEq, Eq, Debug)]
 pub struct RawBid {
     pub grid: u32,

@@ -51,7 +51,8 @@ pub trait Screen {
 }
 
 // A screen at whose base units hang on grids or corridors, each with a limit. The base's tables are its limits and its hangings.
-// What is set at the base forgets what was taken, in the layers above it too.
+// What is set at the base forgets what was taken, in the layers above it too. The clauses tell it of each setter: it holds until the next take,
+// so no type can hold it.
 pub trait NodeLimits: Screen {
     // How many grids or corridors there are.
     ghost nodes: { Self → ℕ };

@@ -3,8 +3,8 @@ use Rattle.std.proofs.lemmas.List.{get_or-map}
 use Rattle.market.specs.Landing.{landed}
 use Rattle.market.proofs.entries.UnitOffer.tier.Goals as goal
 
-pub returns : goal.returns
-returns c =
+pub returns-clause-tier : goal.returns-clause-tier
+returns-clause-tier c =
     let offers = c.args.self.now.offers in
     let within : c.args.band < length offers = search rules in
     record {

@@ -1,8 +1,9 @@
 use Rattle.std.proofs.Common.{rules}
 use Rattle.market.proofs.Shares.{quotient_le}
-use Rattle.market.proofs.sharing.part_at.Goals as goal
+use Rattle.market.proofs.sharing.Sharing.part.Goals as goal
 
 pub overflow_cast-result : goal.overflow_cast-result
 overflow_cast-result c =
-    let le = quotient_le c.args.quantity c.args.claims c.args.running c.requires.0 (search rules) in
+    let s = c.args.self.now in
+    let le = quotient_le s.quantity s.claims s.running s.enough (search rules) in
     search rules
