@@ -1,5 +1,6 @@
 // One group of tied tiers, worked in two rounds.
-// Each step asks that its want fits beside what is taken: that speaks of a parameter, so no type can hold it.
+// Each step asks that its want fits beside what is taken and that a group is no longer than there are places: both speak of parameters, so no
+// type can hold them.
 ghost use Rattle.std.specs.Prelude.{◌≡◌, ◌+◌, ◌^◌, ◌<◌, ◌≤◌, length, sum};
 ghost use Rattle.market.specs.Maxima.{place_count};
 ghost use Rattle.outcome.specs.Groups.{total, targets, first_round, second_round, work_tiers};

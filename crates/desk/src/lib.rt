@@ -77,6 +77,7 @@ fn write_fault(out: &mut Room, fault: LoadFault) -> usize
     let layer = u64::from(refusal.layer);
     let position = u64::from(fault.position());
     let mut line = ArrayVec::<u8, FAULT_ROOM>::new();
+    // Any refusal's line fits, so it is never declined.
     let _ = write_line(&mut line, REFUSAL, &[number, layer, position]);
     let end = line.len();
     out[..end].copy_from_slice(line.as_slice());
@@ -90,6 +91,7 @@ fn write_listing(out: &mut Room, day: &RunningDay) -> usize
     ensures few { result ≤ listing_room }
     ensures bytes { out.new ≡ written out.old 0 (point_listing (shown day.now)) }
 {
+    // The point is cleared and the buffer has room, so the answer is no error.
     list_point(day, out).unwrap_or(0)
 }
 
@@ -204,6 +206,7 @@ impl Desk {
         ensures led { LedTo (desk_of self).0 }
         ensures promise { Closes (desk_of self).0 }
     {
+        // The buffer has room, so the answer is no error.
         self.close(out).unwrap_or(0)
     }
 }

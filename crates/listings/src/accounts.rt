@@ -63,6 +63,7 @@ fn write_account(page: &mut Page, day: &ClosedDay, party: Party, number: u32)
     requires room { array_vec_len page.old + 65 ≤ listing_room }
     ensures { page.new.items ≡ page.old.items ++ account_line party (accounts day.now) number }
 {
+    // There is an account of this number, so the answer is no error.
     if let Ok(money) = party.money(day, number) {
         write_money(page, party.letter(), number, money);
     }
