@@ -18,7 +18,7 @@ pub mod whole;
 use arrayvec::ArrayVec;
 use day::RunningDay;
 use grids::GridScreen;
-use lines::write_line;
+use lines::add_line;
 use listings::{LISTING_ROOM, list_closing, list_point};
 use loads::faults::LoadFault;
 use loads::sheets::load;
@@ -65,7 +65,7 @@ pub fn wanted(window: &[u8]) -> usize
 }
 
 // Writes the line of a refusal from the start of the buffer on, and answers how long it is.
-// It copies its line out as a listing does: one function for both would be public and ask for room.
+// It is added to a small page, whose writer leaves it out where it does not fit, and copied out: any refusal's line fits.
 #[tactic(auto, using(listings::proofs::Texts::three_long), unfolding(lines::specs::Lines::written))]
 fn write_fault(out: &mut Room, fault: LoadFault) -> usize
     ensures long { result ≡ length (fault_line (refusal_in fault, position_in fault)) }
@@ -77,8 +77,7 @@ fn write_fault(out: &mut Room, fault: LoadFault) -> usize
     let layer = u64::from(refusal.layer);
     let position = u64::from(fault.position());
     let mut line = ArrayVec::<u8, FAULT_ROOM>::new();
-    // Any refusal's line fits, so it is never declined.
-    let _ = write_line(&mut line, REFUSAL, &[number, layer, position]);
+    let _ = add_line(&mut line, REFUSAL, &[number, layer, position]);
     let end = line.len();
     out[..end].copy_from_slice(line.as_slice());
     end
@@ -164,10 +163,10 @@ impl Desk {
         ensures ahead { IfOk result (λ step. ((rest : List ℕ) → strip_bytes ≤ length window.now → StripWorked (window.now ++ rest) (desk_of self.old) out.old self.new out.new step)) }
         ensures declined { is_ok result ≡ false → (self.new ≡ self.old) × (out.new ≡ out.old) }
     {
-        let Some(room) = out.first_chunk_mut() else {
+        let Some(line_room) = out.first_chunk_mut() else {
             return Err(MarketRefusal::ShortBuffer);
         };
-        Ok(self.take_strip(window, room))
+        Ok(self.take_strip(window, line_room))
     }
 
     // Works the sheet at the start of the window; with the bytes wanted there, or behind 96 points, it is as if the whole input were there.

@@ -1,7 +1,7 @@
 -- The digits of a number are its decimal.
 use Rattle.std.proofs.Common.{◌≡◌, ℕ, zero, suc, ◌+◌, ◌/◌, ◌%◌, ◌^◌, ◌<◌, ◌≤◌, ltb, [], ◌∷◌, ◌++◌, length, get_or, decimal, sym, ap, ◌∙◌, subst, inl, inr, arith, rules}
 use Rattle.std.specs.Int.{IsInRange}
-use Rattle.std.proofs.lemmas.Fmt.{AppendsLastDigit, decimal_from_appends, length-decimal-le, decimal_digit, digits_decimal, digits_value-decimal, first_decimal}
+use Rattle.std.proofs.lemmas.Fmt.{AppendsLastDigit, decimal_from_appends, length-decimal-le, decimal_step, decimal_digit, digits_decimal, digits_value-decimal, first_decimal}
 use Rattle.std.proofs.lemmas.List.{get_or_default, length_push}
 use Rattle.std.proofs.lemmas.Str.Parse.{IsNumeralModel, numerals_by_fold, tells_by_index}
 use Rattle.std.proofs.lemmas.Bool.{lt-ltb, le-ltb, cases_eq, cond-true, cond-false, cond_both}
@@ -22,6 +22,11 @@ digits_displayed n small = decimal_from_appends last_digits spelled 20 n small (
 -- A number below ten is one digit.
 pub digits_one : (n : ℕ) → n < 10 → digits n ≡ (48 + n) ∷ []
 digits_one n low = digits_displayed n (omega arith) ∙ decimal_digit n low
+
+-- A larger one has the digits of its tenth, then its last digit.
+pub digits_more : (n : ℕ) → 10 ≤ n → n < 2 ^ 64 → digits n ≡ digits (n / 10) ++ ((48 + n % 10) ∷ [])
+digits_more n large small =
+    digits_displayed n small ∙ decimal_step n large small ∙ ap (λ ds. ds ++ ((48 + n % 10) ∷ [])) (sym (digits_displayed (n / 10) (omega arith)))
 
 -- Every number has a digit, and none has more than twenty.
 last_digits_some : (most n : ℕ) → 0 < length (last_digits (suc most) n)
@@ -57,6 +62,26 @@ last_digits_long (suc most) (suc (suc k)) n low some =
 pub digits_long : (k n : ℕ) → n < 10 ^ k → 0 < k → length (digits n) ≤ k
 unfolding digits
 digits_long k n low some = last_digits_long 20 k n low some
+
+-- So for numbers of at most three, six, seven or ten digits.
+pub digits_long_3 : (n : ℕ) → n < 1000 → length (digits n) ≤ 3
+digits_long_3 n low = digits_long 3 n low (omega arith)
+
+pub digits_long_6 : (n : ℕ) → n < 1000000 → length (digits n) ≤ 6
+digits_long_6 n low = digits_long 6 n low (omega arith)
+
+pub digits_long_7 : (n : ℕ) → n < 10000000 → length (digits n) ≤ 7
+digits_long_7 n low = digits_long 7 n low (omega arith)
+
+pub digits_long_10 : (n : ℕ) → n < 10000000000 → length (digits n) ≤ 10
+digits_long_10 n low = digits_long 10 n low (omega arith)
+
+-- A number below ten has one digit, a larger one has one more than its tenth.
+pub length_digits_one : (n : ℕ) → n < 10 → length (digits n) ≡ 1
+length_digits_one n low = ap length (digits_one n low)
+
+pub length_digits_more : (n : ℕ) → 10 ≤ n → n < 2 ^ 64 → length (digits n) ≡ length (digits (n / 10)) + 1
+length_digits_more n large small = ap length (digits_more n large small) ∙ length_push (digits (n / 10)) (48 + n % 10)
 
 -- Digits are read here as numerals are.
 own : IsNumeralModel (λ ds. (i : ℕ) → i < length ds → IsInRange 48 57 (get_or ds i 0)) (read_on 0)

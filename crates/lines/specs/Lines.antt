@@ -23,8 +23,12 @@ unfoldable pub line_of : ℕ → List ℕ → List ℕ
 line_of letter ns = letter ∷ (fields_of ns ++ (10 ∷ []))
 
 -- whether bytes fit into so much room from a place on
-abbrev pub fits : ℕ → ℕ → List ℕ → Bool
-fits room at bytes = nat_le (at + length bytes) room
+abbrev pub fits_room : ℕ → ℕ → List ℕ → Bool
+fits_room room at bytes = nat_le (at + length bytes) room
+
+-- whether bytes fit into a buffer from a place on
+abbrev pub fits : List ℕ → ℕ → List ℕ → Bool
+fits buffer at bytes = fits_room (length buffer) at bytes
 
 -- a buffer after bytes were written into it from a place on: what lies before and behind them is as it was
 unfoldable pub written : List ℕ → ℕ → List ℕ → List ℕ

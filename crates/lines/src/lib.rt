@@ -1,12 +1,15 @@
 #![tactic(auto)]
 
-// Lines of decimal fields, added to a page of fixed room.
+// Lines of decimal fields, added to a page of fixed room or written into a buffer of the caller.
 ghost use Rattle.std.specs.Prelude.{◌≡◌, ℕ, ◌+◌, ◌≤◌, ◌↔◌, List, ◌++◌, length, is_ok, IsOk, OnOk, OnErr};
 ghost use Rattle.arrayvec.specs.ArrayVec.{array_vec_len};
-ghost use Rattle.lines.specs.Lines.{DigitsAreDigits, DigitsReadBack, NoLeadingZero, WorkedLine, field, fits, line_of};
+ghost use Rattle.lines.specs.Lines.{DigitsAreDigits, DigitsReadBack, NoLeadingZero, WorkedLine, field, fits_room, line_of};
+
+mod slices;
 
 use arrayvec::{ArrayVec, CapacityError};
 use itoa::Buffer;
+pub use slices::write_line;
 
 // Adds a field, or a part of it where the page has no room. `itoa` gives the digits, since std's clauses promise no success of a `write!` that fits.
 #[tactic(auto, using(crate::proofs::Digits::digits_displayed))]
@@ -25,7 +28,7 @@ fn add_field<const ROOM: usize>(
 
 // Adds a line, or a part of it where the page has no room.
 #[tactic(auto, unfolding(crate::specs::Lines::line_of))]
-fn add_line<const ROOM: usize>(
+fn add_parts<const ROOM: usize>(
     page: &mut ArrayVec<u8, ROOM>,
     letter: u8,
     fields: &[u64],
@@ -42,12 +45,12 @@ fn add_line<const ROOM: usize>(
 }
 
 // Adds a line to a page. Where it does not fit the page stays as it is.
-pub fn write_line<const ROOM: usize>(
+pub fn add_line<const ROOM: usize>(
     page: &mut ArrayVec<u8, ROOM>,
     letter: u8,
     fields: &[u64],
 ) -> Result<(), CapacityError>
-    ensures answer { is_ok result ≡ fits ROOM (array_vec_len page.old) (line_of letter fields.now) }
+    ensures answer { is_ok result ≡ fits_room ROOM (array_vec_len page.old) (line_of letter fields.now) }
     ensures line { OnOk result (page.new.items ≡ page.old.items ++ line_of letter fields.now) }
     ensures declined { OnErr result (page.new.items ≡ page.old.items) }
     ensures read_back { DigitsReadBack }
@@ -56,7 +59,7 @@ pub fn write_line<const ROOM: usize>(
     ensures worked { WorkedLine }
 {
     let held = page.len();
-    let answer = add_line(page, letter, fields);
+    let answer = add_parts(page, letter, fields);
     if answer.is_err() {
         page.truncate(held);
     }

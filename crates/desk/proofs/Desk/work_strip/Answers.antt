@@ -14,7 +14,7 @@ returns c =
     let b = c.args.out.now in
     let first = c.in-Some.ensures.cases in
     let new = c.take_strip.new in
-    let worked = worked_front (strip_text o) o.0 o.1 strip_bytes s b c.in-Some.room.now new.out new.self c.take_strip.result c.take_strip.ensures first.same first.enough in
+    let worked = worked_front (strip_text o) o.0 o.1 strip_bytes s b c.in-Some.line_room.now new.out new.self c.take_strip.result c.take_strip.ensures first.same first.enough in
     record {
       answer = room_answer (length b) first.enough;
       worked = worked;

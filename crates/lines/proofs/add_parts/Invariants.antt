@@ -1,6 +1,6 @@
 use Rattle.std.proofs.Common.{◌≡◌, ℕ, ◌≤◌, List, ◌∷◌, ◌++◌, length, drop}
 use Rattle.lines.specs.Lines.{fields_of}
-use Rattle.lines.proofs.add_line.Given as goal
+use Rattle.lines.proofs.add_parts.Given as goal
 
 -- Where the fields that are left are added too, the letter and all fields stand behind what the page held.
 abbrev pub invariant-loop-number : goal.invariant-loop-number
