@@ -1,14 +1,28 @@
--- The parts of a listing make it.
-use Rattle.std.proofs.Common.{◌≡◌, ℕ, ltb, ◌++◌, length, get_or, sym, ap, ◌∙◌, arith}
-use Rattle.std.proofs.lemmas.Bool.{cond-true, lt-ltb}
+-- What a listing answers, and that its parts make it.
+use Rattle.std.proofs.Common.{◌≡◌, ℕ, ◌<◌, ◌≤◌, cond, not, ltb, leb, ◌++◌, length, get_or, Some, None, sym, ap, ◌∙◌, arith}
+use Rattle.std.proofs.lemmas.Bool.{cond-true, cond-false, lt-ltb, le-ltb, lt-leb}
+use Rattle.market.specs.Refusals.{refusal_of}
+use Rattle.market.specs.Rows.{topmost}
 use Rattle.clearing.specs.declared.points.Cleared.{Cleared}
-use Rattle.book.specs.Views.{View, Stage, cleared}
+use Rattle.book.specs.Tables.{is_cleared}
+use Rattle.book.specs.Views.{View, Stage, cleared, Declaration}
 use Rattle.day.specs.Shown.{segments_of, declaration_of}
 use Rattle.day.specs.Day.{RisingRows}
-use Rattle.listings.specs.Listings.{lines_to, point_line, award_text, share_text, segment_line, award_line, share_line, declaration_lines, stage_lines, point_listing}
+use Rattle.listings.specs.Listings.{lines_to, point_line, award_text, share_text, segment_line, award_line, share_line, declaration_lines, stage_lines, point_listing, listing_rows, closing_rows}
 use Rattle.listings.specs.Rows.{row_text}
 use Rattle.listings.proofs.LinesTo.{lines_same}
 use Rattle.listings.proofs.SegmentLines.{lines_over_rows}
+
+-- Where there is room for a listing, no row is given for the buffer.
+pub closing_answer : (room : ℕ) → 8192 ≤ room → None ≡ topmost (closing_rows room)
+closing_answer room enough = sym (cond-false (ltb room 8192) (Some (refusal_of 13 2 0)) None (le-ltb room 8192 enough))
+
+-- Nor is one at a cleared point before the last is posted.
+pub point_answer : (v : View) (d : Declaration) (room : ℕ) → v.posted < 96 → cleared d ≡ v.stage → 8192 ≤ room → None ≡ topmost (listing_rows v room)
+point_answer v d room before stage enough =
+    closing_answer room enough
+    ∙ sym (cond-false (not (is_cleared v.stage)) (Some (refusal_of 3 2 0)) (topmost (closing_rows room)) (ap (λ (s : Stage). not (is_cleared s)) (sym stage)))
+    ∙ sym (cond-false (leb 96 v.posted) (Some (refusal_of 1 2 0)) (cond (not (is_cleared v.stage)) (Some (refusal_of 3 2 0)) (topmost (closing_rows room))) (lt-leb 96 v.posted before))
 
 -- The lines of the tables are those of the declaration.
 pub declared_lines :

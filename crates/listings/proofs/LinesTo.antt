@@ -1,6 +1,8 @@
 -- Lines one behind the other, and how they are written.
 use Rattle.std.proofs.Common.{◌≡◌, ℕ, zero, suc, ◌+◌, ◌*◌, ◌<◌, ◌≤◌, List, [], ◌++◌, length, sym, refl, ap, ◌∙◌, subst, inl, inr, append_assoc, append-nil, add-mul, arith, length-append}
 use Rattle.std.proofs.lemmas.Bool.{cases_eq}
+use Rattle.lines.specs.Lines.{written}
+use Rattle.lines.proofs.Written.{written_none, written_then, length_written}
 use Rattle.listings.specs.Listings.{lines_to}
 
 -- Of no number there are no lines, and one number more adds its line.
@@ -52,37 +54,73 @@ lines_first (suc n) p f h within before upto behind =
           ∙ ap (λ xs. f p ++ xs) (sym (lines_more n h))
     ]
 
--- The lines below i stand behind what was held, each of them at most so long.
-pub record Listed (held : List ℕ) (f : ℕ → List ℕ) (most i : ℕ) (page : List ℕ) : Type 0 where
-  pub text : page ≡ held ++ lines_to i f
-  pub few : length page ≤ length held + i * most
+-- The lines below i stand in the buffer from a place on, each of them at most so long.
+pub record Listed (b : List ℕ) (at : ℕ) (f : ℕ → List ℕ) (most i : ℕ) (w : List ℕ) (place : ℕ) : Type 0 where
+  pub end : place ≡ at + length (lines_to i f)
+  pub few : place ≤ at + i * most
+  pub bytes : w ≡ written b at (lines_to i f)
+  pub long : length w ≡ length b
 
 -- At first there are none.
-pub listed_none : (held : List ℕ) (f : ℕ → List ℕ) (most : ℕ) → Listed held f most 0 held
-listed_none held f most = record {
-  text = sym (ap (λ xs. held ++ xs) (lines_none f) ∙ append-nil held);
+pub listed_none : (b : List ℕ) (at : ℕ) (f : ℕ → List ℕ) (most : ℕ) → Listed b at f most 0 b at
+listed_none b at f most = record {
+  end = omega (arith, ap length (lines_none f));
   few = omega arith;
+  bytes = sym (ap (written b at) (lines_none f) ∙ written_none b at);
+  long = refl;
 }
 
--- The next line is added behind them.
+-- The next line is written behind them.
 pub listed_more :
-    (held : List ℕ) (f : ℕ → List ℕ) (most i : ℕ) (page new : List ℕ) → Listed held f most i page → length (f i) ≤ most → new ≡ page ++ f i
-    → Listed held f most (i + 1) new
-listed_more held f most i page new listed short added =
-    subst (λ (k : ℕ). Listed held f most k new) {x = suc i} {y = i + 1} (omega arith)
+    (b : List ℕ) (at : ℕ) (f : ℕ → List ℕ) (most i : ℕ) (w : List ℕ) (place : ℕ) (v : List ℕ) (next : ℕ)
+    → Listed b at f most i w place → length (f i) ≤ most → place + most ≤ length b → next ≡ place + length (f i) → v ≡ written w place (f i)
+    → Listed b at f most (i + 1) v next
+listed_more b at f most i w place v next listed short room ends wrote =
+    subst (λ (k : ℕ). Listed b at f most k v next) {x = suc i} {y = i + 1} (omega arith)
     (record {
-      text = added ∙ ap (λ xs. xs ++ f i) listed.text ∙ append_assoc held (lines_to i f) (f i) ∙ ap (λ xs. held ++ xs) (sym (lines_more i f));
-      few = omega (arith, listed.few, short, ap length added, length-append page (f i), add-mul 1 i most, one_mul);
+      end = omega (arith, listed.end, ends, ap length (lines_more i f), length-append (lines_to i f) (f i));
+      few = omega (arith, listed.few, short, ends, add-mul 1 i most, one_mul);
+      bytes =
+          wrote
+          ∙ (λ k. written (listed.bytes k) (listed.end k) (f i))
+          ∙ written_then b at (lines_to i f) (f i) (omega (arith, listed.end, room))
+          ∙ ap (written b at) (sym (lines_more i f));
+      long = ap length wrote ∙ length_written w place (f i) (omega (arith, listed.long, room, short)) ∙ listed.long;
     })
   where
     one_mul : 1 * most ≡ most
     one_mul = omega arith
 
--- Four texts one behind the other on an empty page.
-pub four_added :
-    (xs ys zs ts a b c d e : List ℕ) → a ≡ [] → b ≡ a ++ xs → c ≡ b ++ ys → d ≡ c ++ zs → e ≡ d ++ ts → e ≡ xs ++ (ys ++ (zs ++ ts))
-four_added xs ys zs ts a b c d e none one two three four =
-    four
-    ∙ ap (λ l. l ++ ts) (three ∙ ap (λ l. l ++ zs) (two ∙ ap (λ l. l ++ ys) (one ∙ ap (λ l. l ++ xs) none)))
-    ∙ append_assoc (xs ++ ys) zs ts
-    ∙ append_assoc xs ys (zs ++ ts)
+-- Once all are passed, all are written.
+pub listed_all :
+    (b : List ℕ) (at : ℕ) (f : ℕ → List ℕ) (most i n : ℕ) (w : List ℕ) (place : ℕ) → Listed b at f most i w place → i ≡ n
+    → (place ≡ at + length (lines_to n f)) × (place ≤ at + n * most) × (w ≡ written b at (lines_to n f))
+listed_all b at f most i n w place listed all = (
+  listed.end ∙ ap (λ (k : ℕ). at + length (lines_to k f)) all,
+  subst (λ (k : ℕ). place ≤ at + k * most) all listed.few,
+  listed.bytes ∙ ap (λ (k : ℕ). written b at (lines_to k f)) all,
+)
+
+-- Bytes written behind bytes, with the places where they end.
+pub then_written :
+    (b : List ℕ) (xs ys : List ℕ) (n m : ℕ) (w v : List ℕ) → n ≡ length xs → w ≡ written b 0 xs → m ≡ n + length ys → v ≡ written w n ys
+    → (m ≡ length (xs ++ ys)) × (v ≡ written b 0 (xs ++ ys))
+then_written b xs ys n m w v ends wrote next after = (
+  omega (arith, ends, next, length-append xs ys),
+  after ∙ (λ k. written (wrote k) (at_end k) ys) ∙ written_then b 0 xs ys (omega arith),
+)
+  where
+    at_end : n ≡ 0 + length xs
+    at_end = omega (arith, ends)
+
+-- Four texts one behind the other are written as one.
+pub four_written :
+    (b : List ℕ) (xs ys zs ts : List ℕ) (n m k l : ℕ) (w v u x : List ℕ)
+    → n ≡ 0 + length xs → w ≡ written b 0 xs → m ≡ n + length ys → v ≡ written w n ys → k ≡ m + length zs → u ≡ written v m zs → l ≡ k + length ts → x ≡ written u k ts
+    → (l ≡ length (xs ++ (ys ++ (zs ++ ts)))) × (x ≡ written b 0 (xs ++ (ys ++ (zs ++ ts))))
+four_written b xs ys zs ts n m k l w v u x n-ends w-wrote m-ends v-wrote k-ends u-wrote l-ends x-wrote =
+    let two = then_written b xs ys n m w v (omega (arith, n-ends)) w-wrote m-ends v-wrote in
+    let three = then_written b (xs ++ ys) zs m k v u two.0 two.1 k-ends u-wrote in
+    let four = then_written b ((xs ++ ys) ++ zs) ts k l u x three.0 three.1 l-ends x-wrote in
+    let all : ((xs ++ ys) ++ zs) ++ ts ≡ xs ++ (ys ++ (zs ++ ts)) = append_assoc (xs ++ ys) zs ts ∙ append_assoc xs ys (zs ++ ts) in
+    (four.0 ∙ ap length all, four.1 ∙ ap (written b 0) all)

@@ -1,3 +1,4 @@
 pub mod Listings
+pub mod Pages
 pub mod Parties
 pub mod Rows

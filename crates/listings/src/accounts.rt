@@ -1,13 +1,12 @@
 // The lines of a closed day's accounts.
-ghost use Rattle.std.specs.Prelude.{◌≡◌, ◌+◌, ◌*◌, ◌<◌, ◌≤◌, ◌++◌, IsOk, IfOk};
-ghost use Rattle.arrayvec.specs.ArrayVec.{array_vec_len};
-ghost use Rattle.market.specs.Maxima.{listing_room};
+ghost use Rattle.std.specs.Prelude.{◌≡◌, ◌+◌, ◌*◌, ◌<◌, ◌≤◌, length, IsOk, IfOk};
 ghost use Rattle.day.specs.Accounts.{WholeFen};
 ghost use Rattle.day.specs.Day.{accounts};
+ghost use Rattle.listings.specs.Pages.{Added};
 ghost use Rattle.listings.specs.Parties.{account_line, account_lines, letter_of, money_of, party_count};
 
-use super::writing::write_money;
-use super::{Page, letters};
+use super::letters;
+use super::writing::{Page, write_money};
 use book::Money;
 use day::ClosedDay;
 use market::maxima::{GRIDS, UNITS};
@@ -58,10 +57,11 @@ impl Party {
 }
 
 // The account of the one with a number.
-fn write_account(page: &mut Page, day: &ClosedDay, party: Party, number: u32)
+#[inline(always)]
+fn write_account(page: &mut Page<'_>, day: &ClosedDay, party: Party, number: u32)
     requires number { number < party_count party }
-    requires room { array_vec_len page.old + 65 ≤ listing_room }
-    ensures { page.new.items ≡ page.old.items ++ account_line party (accounts day.now) number }
+    requires room { page.old.end + 65 ≤ length page.old.buffer.now }
+    ensures { Added page.old page.new (account_line party (accounts day.now) number) }
 {
     // There is an account of this number, so the answer is no error.
     if let Ok(money) = party.money(day, number) {
@@ -69,11 +69,12 @@ fn write_account(page: &mut Page, day: &ClosedDay, party: Party, number: u32)
     }
 }
 
-// The accounts of those of a kind that have money, by number.
-pub fn write_accounts(page: &mut Page, day: &ClosedDay, party: Party)
-    requires { array_vec_len page.old + 65 * party_count party ≤ listing_room }
-    ensures text { page.new.items ≡ page.old.items ++ account_lines party (accounts day.now) }
-    ensures few { array_vec_len page.new ≤ array_vec_len page.old + 65 * party_count party }
+// The accounts of those of a kind that have money, by number. Inlined, so that each kind has a loop of its own.
+#[inline(always)]
+pub fn write_accounts(page: &mut Page<'_>, day: &ClosedDay, party: Party)
+    requires { page.old.end + 65 * party_count party ≤ length page.old.buffer.now }
+    ensures text { Added page.old page.new (account_lines party (accounts day.now)) }
+    ensures few { page.new.end ≤ page.old.end + 65 * party_count party }
 {
     for number in 0..party.count() {
         write_account(page, day, party, number);

@@ -2,8 +2,6 @@
 
 // The listing of a cleared point and of a closed day, written into a buffer of the caller.
 ghost use Rattle.std.specs.Prelude.{◌≡◌, ◌≤◌, length, IfOk};
-ghost use Rattle.arrayvec.specs.ArrayVec.{array_vec_len};
-ghost use Rattle.lines.specs.Lines.{written};
 ghost use Rattle.market.specs.Entries.{market_answer};
 ghost use Rattle.market.specs.Maxima.{listing_room};
 ghost use Rattle.market.specs.Rows.{topmost};
@@ -16,36 +14,18 @@ mod points;
 mod writing;
 
 use accounts::{Party, write_accounts};
-use arrayvec::ArrayVec;
 use day::{ClosedDay, RunningDay};
 use market::maxima::POINTS;
 use market::refusals::MarketRefusal;
 use points::{write_awards, write_segments, write_shares};
-use writing::{write_branch, write_point};
+use writing::{Page, write_branch, write_point};
 
 // The bytes that any listing fits into.
 pub const LISTING_ROOM: usize = 8_192;
 
-// What any listing is first written onto.
-type Page = ArrayVec<u8, LISTING_ROOM>;
-
-// Copies a page to the start of a buffer, and answers its length.
-#[tactic(auto, unfolding(lines::specs::Lines::written))]
-fn copy_out(page: &Page, buffer: &mut [u8]) -> usize
-    requires { listing_room ≤ length buffer.old }
-    ensures long { result ≡ array_vec_len page.now }
-    ensures few { result ≤ listing_room }
-    ensures bytes { buffer.new ≡ written buffer.old 0 page.now.items }
-{
-    let end = page.len();
-    buffer[..end].copy_from_slice(page.as_slice());
-    end
-}
-
 // Lists the cleared point from the start of the buffer on, and answers how long the listing is, never more
 // than 8,192 bytes. Declined with 1 after 96 posted points, 3 where the point is not cleared, 13 under 8,192 bytes, and the buffer is
 // then untouched.
-#[tactic(auto, using(crate::proofs::Texts::two_long))]
 pub fn list_point(day: &RunningDay, buffer: &mut [u8]) -> Result<usize, MarketRefusal>
     ensures answer { market_answer result ≡ topmost (listing_rows (shown day.now) (length buffer.old)) }
     ensures long { IfOk result (λ n. n ≡ length (point_listing (shown day.now))) }
@@ -62,12 +42,12 @@ pub fn list_point(day: &RunningDay, buffer: &mut [u8]) -> Result<usize, MarketRe
     if buffer.len() < LISTING_ROOM {
         return Err(MarketRefusal::ShortBuffer);
     }
-    let mut page = Page::new();
+    let mut page = Page { buffer, end: 0 };
     write_point(&mut page, posted, day.entry_count());
     write_segments(&mut page, cleared.segments());
     write_awards(&mut page, &cleared.awards);
     write_shares(&mut page, &cleared.got);
-    Ok(copy_out(&page, buffer))
+    Ok(page.end)
 }
 
 // Lists the accounts of a closed day from the start of the buffer on, and answers how long the listing is,
@@ -81,10 +61,10 @@ pub fn list_closing(day: &ClosedDay, buffer: &mut [u8]) -> Result<usize, MarketR
     if buffer.len() < LISTING_ROOM {
         return Err(MarketRefusal::ShortBuffer);
     }
-    let mut page = Page::new();
+    let mut page = Page { buffer, end: 0 };
     write_accounts(&mut page, day, Party::Buyer);
     write_accounts(&mut page, day, Party::Unit);
     write_accounts(&mut page, day, Party::Wires);
     write_branch(&mut page, day.branch());
-    Ok(copy_out(&page, buffer))
+    Ok(page.end)
 }
