@@ -74,7 +74,8 @@ pub fn show_steps(
     steps: &[Step],
 ) -> anyhow::Result<()> {
     for (call, step) in calls.iter().zip(steps.iter()) {
-        println!(rt; "{}: {}", Named(call), Answered(step.answer))?;
+        print!(rt; "{}", Named(call))?;
+        println!(rt; ": {}", Answered(step.answer))?;
         if let (DayCall::Clear(_), Some(cleared)) = (call, &step.declared) {
             show_cleared(rt, cleared)?;
         }

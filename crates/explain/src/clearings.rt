@@ -4,6 +4,8 @@ use clearing::points::{Segment, clear};
 use grids::GridScreen;
 use layers::caps::CapLayer;
 use layers::setters::PlaceCaps;
+use market::figures::BidPrice;
+use market::maxima::MAX_PRICE;
 use market::refusals::ScreenRefusal;
 use market::tiers::{Bid, Tier};
 use outcome::PointEntries;
@@ -30,6 +32,13 @@ fn sellers(tiers: &[Tier]) -> [Option<Tier>; 256] {
     places
 }
 
+// Whether the tier lands within the segment's bid.
+fn lands_in(tier: &Tier, segment: &Segment) -> bool {
+    tier.landed.within(BidPrice {
+        fen: segment.bid.min(MAX_PRICE),
+    })
+}
+
 // A segment of a cleared point, and the segments before it.
 #[derive(Clone, Copy)]
 struct Worked<'a> {
@@ -45,11 +54,10 @@ impl Worked<'_> {
         bid.price.fen >= self.segment.bid
     }
 
-    // Whether the tier comes in with the segment: it lands within its bid, and above the bid before.
+    // Whether the tier comes in with the segment: it lands within its bid, and not within the bid before.
     fn sells(&self, tier: &Tier) -> bool {
-        let landed = tier.landed.fen();
-        let above = self.before.last().map_or(true, |lower| landed > lower.bid);
-        above && landed <= self.segment.bid
+        let before = self.before.last();
+        lands_in(tier, self.segment) && !before.is_some_and(|lower| lands_in(tier, lower))
     }
 
     // What a bid's grid still needed when the segment began.

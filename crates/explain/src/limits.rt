@@ -24,10 +24,12 @@ fn show_take<S: Screen>(
     place: u32,
     quantity: u32,
 ) -> anyhow::Result<()> {
-    print!(rt; "  take {quantity} at place {place}: ")?;
     match screen.take(place, quantity) {
-        Ok(()) => print!(rt; "taken;")?,
-        Err(refusal) => print!(rt; "refusal {};", Refusal::from(refusal).number)?,
+        Ok(()) => print!(rt; "  take {quantity} at place {place}: taken;")?,
+        Err(refusal) => print!(rt;
+            "  take {quantity} at place {place}: refusal {};",
+            Refusal::from(refusal).number
+        )?,
     }
     println!(rt;
         " room {} at place 0, {} at place 4",

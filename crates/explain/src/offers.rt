@@ -28,14 +28,13 @@ fn show_unit(rt: &HostRuntime, offer: &UnitOffer) -> anyhow::Result<()> {
     )?;
     for band in 0..offer.class.band_count() {
         let capacity = offer.class.capacity(figures, band);
-        print!(rt; "  band {band}: capacity {capacity}")?;
         match offer.tier(band, charges(offer.grid)) {
             Some(tier) => println!(rt;
-                " at place {}, landed offer {}",
+                "  band {band}: capacity {capacity} at place {}, landed offer {}",
                 tier.place.number,
                 tier.landed.fen()
             )?,
-            None => println!(rt; ", no tier")?,
+            None => println!(rt; "  band {band}: capacity {capacity}, no tier")?,
         }
     }
     Ok(())
