@@ -1,9 +1,7 @@
 -- Tables of numbers: one number throughout, or one number changed.
-use Rattle.std.proofs.Common.{◌≡◌, ℕ, zero, suc, ◌<◌, ◌≤◌, false, is_ge, nat_cmp, List, length, get_or, set, replicate, inl, inr, arith}
+use Rattle.std.proofs.Common.{◌≡◌, ℕ, zero, suc, ◌<◌, ◌≤◌, List, length, get_or, set, replicate, inl, inr, arith}
 use Rattle.std.proofs.lemmas.List.{get_or-set_same, get_or-set_other, set_past}
 use Rattle.std.proofs.lemmas.Bool.{cases_eq, cases_lt}
-use Rattle.std.proofs.lemmas.Bool.Decides.{nat_tests}
-use Rattle.std.proofs.lemmas.Grind.{common_steps}
 
 -- What holds at each number of a table still holds when one is changed to a number of which it holds.
 pub each_after_set : (P : ℕ → ℕ → Type 0) (xs : List ℕ) (k v : ℕ) → P k v → ((c : ℕ) → P c (get_or xs c 0)) → (c : ℕ) → P c (get_or (set xs k v) c 0)
@@ -18,7 +16,3 @@ pub most_of_one_number : (n v c : ℕ) → get_or (replicate n v) c 0 ≤ v
 most_of_one_number zero v c = omega arith
 most_of_one_number (suc n) v zero = omega arith
 most_of_one_number (suc n) v (suc c) = most_of_one_number n v c
-
--- What is not compared as greater or equal is less.
-pub less_from_not_ge : (a b : ℕ) → false ≡ is_ge (nat_cmp a b) → a < b
-less_from_not_ge a b h = grind (arith, nat_tests, common_steps)

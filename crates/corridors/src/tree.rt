@@ -48,7 +48,7 @@ impl Tree {
         let corridor = Corridor::try_from(node)?;
         let above = Corridor::try_from(parent)?;
         // 0 may be the parent of every corridor, its own too.
-        if above.number > 0 && above >= corridor {
+        if above.number > 0 && above.number >= corridor.number {
             return Err(ScreenRefusal::ParentNotLower { corridor: node });
         }
         self.parents[usize::from(corridor.number)] = above;
